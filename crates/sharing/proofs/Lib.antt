@@ -1,0 +1,4 @@
+pub mod Steps
+pub mod Charged
+pub mod SplitLaws
+pub mod RunningLaws

@@ -1,0 +1,5 @@
+pub mod Rows
+pub mod Rule
+pub mod Fault
+pub mod Split
+pub mod Running
