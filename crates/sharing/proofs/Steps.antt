@@ -1,6 +1,6 @@
 -- Sums of what rises step by step. Assumes nothing.
-use mathlib.Core.Path.{_≡_}
-use Prim.Native.Nat.{ℕ, zero, suc, _+_, _-_, _≤_}
+use mathlib.Core.Path.{_≡_, refl}
+use Prim.Native.Nat.{ℕ, zero, suc, _+_, _-_, _<_, _≤_}
 use native.Mathlib.Numerals.{add-one}
 use native.Mathlib.Omega.{arith}
 use Rattle.std.specs.Iters.{counting}
@@ -20,4 +20,15 @@ steps-add-up g up (suc n) =
     let more = sumBy-counting-more (λ i. g (i + 1) - g i) 0 n n (omega arith) in
     let here = up n in
     let all : g 0 + sumBy (λ i. g (i + 1) - g i) (counting 0 (n + 1)) ≡ g (n + 1) = omega arith in
+    rw add-one at all
+
+-- what is the same at each number below n has the same sum
+pub sumBy-counting-same : (f g : ℕ → ℕ) (n : ℕ) → ((i : ℕ) → i < n → f i ≡ g i) → sumBy f (counting 0 n) ≡ sumBy g (counting 0 n)
+sumBy-counting-same f g zero same = refl
+sumBy-counting-same f g (suc n) same =
+    let before = sumBy-counting-same f g n (λ i h. same i (omega arith)) in
+    let fs = sumBy-counting-more f 0 n n (omega arith) in
+    let gs = sumBy-counting-more g 0 n n (omega arith) in
+    let here = same n (omega arith) in
+    let all : sumBy f (counting 0 (n + 1)) ≡ sumBy g (counting 0 (n + 1)) = omega arith in
     rw add-one at all

@@ -3,3 +3,5 @@ pub mod Rule
 pub mod Fault
 pub mod Split
 pub mod Running
+pub mod Remainder
+pub mod Cut

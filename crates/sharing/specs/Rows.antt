@@ -7,6 +7,10 @@ use Rattle.sharing.specs.declared.rows.Row.{Row}
 abbrev pub mwhs : List Row → List ℕ
 mwhs rows = map (λ r. r .mwh) rows
 
+-- the charge of each row
+abbrev pub charges-in : List Row → List ℕ
+charges-in rows = map (λ r. r .charge) rows
+
 -- the row with another charge
 abbrev pub with-charge : Row → ℕ → Row
 with-charge r c = record { id = r .id; mwh = r .mwh; charge = c }

@@ -1,10 +1,15 @@
 //! What a sharing rule means, and what every rule keeps.
-ghost use Prim.Native.Nat.{ℕ};
+ghost use mathlib.Core.Path.{_≡_};
 ghost use mathlib.Core.List.{List};
+ghost use Prim.Native.Nat.{ℕ, _<_};
+ghost use Rattle.std.specs.shelf.Lists.{sum};
+ghost use Rattle.std.specs.Results.{Cases};
 ghost use Rattle.sharing.specs.Rows.{mwhs};
 ghost use Rattle.sharing.specs.Rule.{Shareable, Lawful, Shares};
+ghost use Rattle.sharing.specs.declared.fault.SharingFault.the-variants.{NoWeight};
 use crate::Row;
 use crate::SharingFault;
+use crate::total_mwh;
 
 /// A way to share a month's total. It means two lists made from the total and the rows' MWh: a weight for each row,
 /// and a charge for each row.
@@ -23,4 +28,18 @@ pub trait SharingRule {
             (weights (now (self .entry)) total (mwhs (now (rows .entry))))
             (charges (now (self .entry)) total (mwhs (now (rows .entry))))
             (now (rows .entry)) r (now (rows .exit)) ⌝ };
+}
+
+/// The MWh that the rows weigh together; refused where there is a total and no MWh.
+pub(crate) fn weigh(total: u64, rows: &[Row]) -> Result<u64, SharingFault>
+    requires { ⌜ Shareable total (mwhs (now rows)) ⌝ }
+    ensures { λ r. ⌜ Cases r
+        (λ whole. (whole ≡ sum (mwhs (now (rows .entry)))) × (whole ≡ 0 → total ≡ 0))
+        (λ fault. (sum (mwhs (now (rows .entry))) ≡ 0) × (0 < total) × (fault ≡ NoWeight)) ⌝ }
+{
+    let whole = total_mwh(rows);
+    if whole == 0 && total > 0 {
+        return Err(SharingFault::NoWeight);
+    }
+    Ok(whole)
 }

@@ -12,7 +12,7 @@ use crate::Row;
 use crate::RunningSplit;
 use crate::SharingFault;
 use crate::SharingRule;
-use crate::total_mwh;
+use crate::rule::weigh;
 
 /// Shares by the MWh, each row paying what rows 1 to itself owe less what the rows before it pay.
 #[derive(Clone, Copy)]
@@ -40,10 +40,7 @@ fn split_by_mwh(total: u64, rows: &[Row]) -> Result<RunningSplit, SharingFault>
         (λ split. (sum (mwhs (now (rows .entry))) ≡ 0 → total ≡ 0) × (split .total ≡ total) × (split .whole ≡ sum (mwhs (now (rows .entry)))) × (split .before ≡ 0))
         (λ fault. (sum (mwhs (now (rows .entry))) ≡ 0) × (0 < total) × (fault ≡ NoWeight)) ⌝ }
 {
-    let whole = total_mwh(rows);
-    if whole == 0 && total > 0 {
-        return Err(SharingFault::NoWeight);
-    }
+    let whole = weigh(total, rows)?;
     Ok(RunningSplit::new(total, whole).unwrap())
 }
 
