@@ -1,0 +1,4 @@
+pub mod Credit
+pub mod Testing
+pub mod Fault
+pub mod Measuring
