@@ -1,0 +1,13 @@
+pub mod JudgedRows
+pub mod Places
+pub mod Modules
+pub mod Registered
+pub mod Traded
+pub mod Settled
+pub mod CountingSums
+pub mod AmountLaws
+pub mod AddingShares
+pub mod RightLaws
+pub mod MonthBounds
+pub mod PenaltyLaws
+pub mod BookingLaws
