@@ -1,4 +1,4 @@
-//! The course of a month: one match on stage and call together accepts, moves on or refuses.
+//! The course of a month: what each call does to the stage, or why it may not be made at that stage.
 ghost use mathlib.Core.Path.{_≡_};
 ghost use Rattle.ledger.specs.Judged.{judged};
 ghost use Rattle.ledger.specs.Course.{course, moved};

@@ -13,7 +13,7 @@ use crate::state::Book;
 use crate::state::Facility;
 
 impl Ledger {
-    /// Sets one facility on or off, and touches no other.
+    /// Puts a facility's switch; all others stay.
     pub(crate) fn switch(&mut self, facility: u32, on: bool) -> Result<(), LedgerFault>
         ensures answer { λ r. ⌜ r ≡ ruled (switch-rows (now (self .entry) .book) facility) (Ok tt) ⌝ }
         ensures after { λ r. ⌜ now (self .exit) .book ≡ kept-or r (switched (now (self .entry) .book) facility on) (now (self .entry) .book) ⌝ }

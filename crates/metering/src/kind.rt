@@ -41,7 +41,7 @@ pub trait Kind {
     fn longest_test() -> u32
         ensures { λ r. ⌜ r ≡ longest ⌝ };
 
-    /// The credit in kW of an hour record under a commitment.
+    /// How many kW the record of one hour is worth, given the facility's commitment.
     fn credit(hour: &Self::Hour, commitment: u32) -> u32
         ensures { λ r. ⌜ r ≡ credit (now (hour .entry)) commitment ⌝ };
 }
