@@ -1,5 +1,8 @@
 //! The calendar of stress hours of one delivery year: its hours and months, its runs of stress
 //! hours, and the walk through those of a month.
+
+#![tactic(auto)]
+
 mod fault;
 mod run;
 mod year;

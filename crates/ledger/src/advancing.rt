@@ -23,10 +23,10 @@ impl Ledger {
         rule: &R,
         rows: &mut [Row],
     ) -> Result<u64, LedgerFault>
-        ensures answer { result ≡ ruled (advance_rows self.old.book rows.old) (shared (total_now self.old.book) (weights rule.now (total_now self.old.book) (mwhs rows.old))) }
-        ensures rows { rows.new ≡ kept_or result (charged rows.old (charges rule.now (total_now self.old.book) (mwhs rows.old))) rows.old }
+        ensures answer { result ≡ ruled (advance_rows self.old.book rows.old) (shared (total_now self.old.book) (R.weights rule.now (total_now self.old.book) (mwhs rows.old))) }
+        ensures rows { rows.new ≡ kept_or result (charged rows.old (R.charges rule.now (total_now self.old.book) (mwhs rows.old))) rows.old }
         ensures after { self.new.book ≡ kept_or result (advanced self.old.book) self.old.book }
-        ensures recorded { (j : Journal) → Recorded j self.old → Recorded (advancing (record { weights = weights rule.now; charges = charges rule.now }) rows.old result rows.new ∷ j) self.new }
+        ensures recorded { (j : Journal) → Recorded j self.old → Recorded (advancing (record { weights = R.weights rule.now; charges = R.charges rule.now }) rows.old result rows.new ∷ j) self.new }
     {
         let stage = turn(self.book.stage, Call::Advance)?;
         let (_, total) = self.settled();

@@ -20,10 +20,10 @@ use sharing::{Row, SharingRule};
 impl Ledger {
     /// Books the month, writes each buyer's charge into its row, starts the next month, and answers the month's total.
     pub fn close<R: SharingRule>(&mut self, rule: &R, rows: &mut [Row]) -> Result<u64, LedgerFault>
-        ensures answer { result ≡ ruled (close_rows self.old.book rows.old) (shared (total_now self.old.book) (weights rule.now (total_now self.old.book) (mwhs rows.old))) }
-        ensures rows { rows.new ≡ kept_or result (charged rows.old (charges rule.now (total_now self.old.book) (mwhs rows.old))) rows.old }
+        ensures answer { result ≡ ruled (close_rows self.old.book rows.old) (shared (total_now self.old.book) (R.weights rule.now (total_now self.old.book) (mwhs rows.old))) }
+        ensures rows { rows.new ≡ kept_or result (charged rows.old (R.charges rule.now (total_now self.old.book) (mwhs rows.old))) rows.old }
         ensures after { self.new.book ≡ kept_or result (closed self.old.book) self.old.book }
-        ensures recorded { (j : Journal) → Recorded j self.old → Recorded (closing (record { weights = weights rule.now; charges = charges rule.now }) rows.old result rows.new ∷ j) self.new }
+        ensures recorded { (j : Journal) → Recorded j self.old → Recorded (closing (record { weights = R.weights rule.now; charges = R.charges rule.now }) rows.old result rows.new ∷ j) self.new }
     {
         let stage = turn(self.book.stage, Call::Close)?;
         if some_open(&self.book.month.claims) {

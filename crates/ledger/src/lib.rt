@@ -1,4 +1,7 @@
 //! The ledger of one delivery year.
+
+#![tactic(auto)]
+
 mod advancing;
 mod amounts;
 mod awarding;

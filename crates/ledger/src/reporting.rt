@@ -15,9 +15,9 @@ use metering::{Kind, Measured, Report, measure};
 impl Ledger {
     /// Takes the facility's report, in place of any that it made before in the month.
     pub fn report<K: Kind>(&mut self, facility: u32, report: &Report<K>) -> Result<(), LedgerFault>
-        ensures answer { result ≡ ruled (letter_rows made.Report self.old.book facility letter) (taken (measured_for shortest longest credit self.old.book facility report.now.hours.now report.now.test)) }
-        ensures after { self.new.book ≡ kept_or result (with_measured self.old.book facility (measured_for shortest longest credit self.old.book facility report.now.hours.now report.now.test)) self.old.book }
-        ensures recorded { (j : Journal) → Recorded j self.old → Recorded (reporting facility (meant letter shortest longest credit report.now.hours.now report.now.test) result ∷ j) self.new }
+        ensures answer { result ≡ ruled (letter_rows made.Report self.old.book facility K.letter) (taken (measured_for K.shortest K.longest K.credit self.old.book facility report.now.hours.now report.now.test)) }
+        ensures after { self.new.book ≡ kept_or result (with_measured self.old.book facility (measured_for K.shortest K.longest K.credit self.old.book facility report.now.hours.now report.now.test)) self.old.book }
+        ensures recorded { (j : Journal) → Recorded j self.old → Recorded (reporting facility (meant K.letter K.shortest K.longest K.credit report.now.hours.now report.now.test) result ∷ j) self.new }
     {
         let measured = self.measured(Call::Report, facility, report)?;
         self.book.month.put_report(facility, measured);
@@ -31,7 +31,7 @@ impl Ledger {
         facility: u32,
         report: &Report<K>,
     ) -> Result<Measured, LedgerFault>
-        ensures { result ≡ ruled (letter_rows call self.now.book facility letter) (metered (measured_for shortest longest credit self.now.book facility report.now.hours.now report.now.test)) }
+        ensures { result ≡ ruled (letter_rows call self.now.book facility K.letter) (metered (measured_for K.shortest K.longest K.credit self.now.book facility report.now.hours.now report.now.test)) }
     {
         self.may_report(call, facility, K::kind_letter())?;
         let commitment = self.commitment(facility);

@@ -37,8 +37,8 @@ pub(crate) fn share_within<R: SharingRule>(
     rows: &mut [Row],
 ) -> Result<u64, LedgerFault>
     requires { total ≤ 30_000_000_000 }
-    ensures answer { result ≡ ruled (limit_rows rows.old) (shared total (weights rule.now total (mwhs rows.old))) }
-    ensures rows { rows.new ≡ kept_or result (charged rows.old (charges rule.now total (mwhs rows.old))) rows.old }
+    ensures answer { result ≡ ruled (limit_rows rows.old) (shared total (R.weights rule.now total (mwhs rows.old))) }
+    ensures rows { rows.new ≡ kept_or result (charged rows.old (R.charges rule.now total (mwhs rows.old))) rows.old }
 {
     if let Err(refusal) = check_rows(rows) {
         return Err(LedgerFault::Own(refusal));
@@ -66,8 +66,8 @@ fn rows_within(rows: &[Row]) -> bool
 /// Shares the total over the rows by the rule, and answers it.
 fn share<R: SharingRule>(rule: &R, total: u64, rows: &mut [Row]) -> Result<u64, LedgerFault>
     requires { Shareable total (mwhs rows.old) }
-    ensures answer { result ≡ shared total (weights rule.now total (mwhs rows.old)) }
-    ensures rows { rows.new ≡ kept_or result (charged rows.old (charges rule.now total (mwhs rows.old))) rows.old }
+    ensures answer { result ≡ shared total (R.weights rule.now total (mwhs rows.old)) }
+    ensures rows { rows.new ≡ kept_or result (charged rows.old (R.charges rule.now total (mwhs rows.old))) rows.old }
 {
     rule.share(total, rows)?;
     Ok(total)

@@ -19,9 +19,9 @@ use metering::{Kind, Measured, Report};
 impl Ledger {
     /// Answers the facility's claim, and takes the report in place of the one that it has.
     pub fn uphold<K: Kind>(&mut self, facility: u32, report: &Report<K>) -> Result<(), LedgerFault>
-        ensures answer { result ≡ ruled (letter_rows made.Answer self.old.book facility letter) (upheld_by (measured_for shortest longest credit self.old.book facility report.now.hours.now report.now.test) (claim_of self.old.book facility)) }
-        ensures after { self.new.book ≡ kept_or result (upheld self.old.book facility (measured_for shortest longest credit self.old.book facility report.now.hours.now report.now.test)) self.old.book }
-        ensures recorded { (j : Journal) → Recorded j self.old → Recorded (upholding facility (meant letter shortest longest credit report.now.hours.now report.now.test) result ∷ j) self.new }
+        ensures answer { result ≡ ruled (letter_rows made.Answer self.old.book facility K.letter) (upheld_by (measured_for K.shortest K.longest K.credit self.old.book facility report.now.hours.now report.now.test) (claim_of self.old.book facility)) }
+        ensures after { self.new.book ≡ kept_or result (upheld self.old.book facility (measured_for K.shortest K.longest K.credit self.old.book facility report.now.hours.now report.now.test)) self.old.book }
+        ensures recorded { (j : Journal) → Recorded j self.old → Recorded (upholding facility (meant K.letter K.shortest K.longest K.credit report.now.hours.now report.now.test) result ∷ j) self.new }
     {
         let measured = self.measured(Call::Answer, facility, report)?;
         answerable(self.book.month.claims[facility as usize - 1])?;

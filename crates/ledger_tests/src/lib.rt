@@ -1,4 +1,7 @@
 //! A year of calls with all their answers, and a year without awards.
+
+#![tactic(auto)]
+
 #[cfg(test)]
 mod answers;
 #[cfg(test)]

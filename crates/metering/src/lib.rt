@@ -1,5 +1,8 @@
 //! What the measured hours of a facility are worth: kinds of facility, reports with their tests, and the counted hours
 //! and credited energy that come of them.
+
+#![tactic(auto)]
+
 mod fault;
 mod kind;
 mod measuring;

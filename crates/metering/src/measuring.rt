@@ -31,7 +31,7 @@ pub fn measure<K: Kind>(
     commitment: u32,
     report: &Report<K>,
 ) -> Result<Measured, MeteringFault>
-    ensures { result ≡ measuring shortest longest credit calendar.now month commitment report.now.hours.now report.now.test }
+    ensures { result ≡ measuring K.shortest K.longest K.credit calendar.now month commitment report.now.hours.now report.now.test }
 {
     if report.hours.len() != calendar.stress_hours_in(month) as usize {
         return Err(MeteringFault::Records);
@@ -58,7 +58,7 @@ fn counted<K: Kind>(
     month: u32,
     test: &Option<Test>,
 ) -> Result<u32, MeteringFault>
-    ensures { result ≡ counting_with shortest longest calendar.now month test.now }
+    ensures { result ≡ counting_with K.shortest K.longest calendar.now month test.now }
 {
     let stress = calendar.stress_hours_in(month);
     let Some(test) = test else {
@@ -101,7 +101,7 @@ fn credited<K: Kind>(
     test: &Option<Test>,
 ) -> u64
     requires { length records.now ≡ length (stress_hours calendar.now month) }
-    ensures { result ≡ credited_energy credit commitment (failed_in test.now) (stress_hours calendar.now month) records.now }
+    ensures { result ≡ credited_energy K.credit commitment (failed_in test.now) (stress_hours calendar.now month) records.now }
 {
     let mut sum: u64 = 0;
     for (i, hour) in calendar.stress_hours(month).enumerate() {
@@ -130,7 +130,7 @@ fn hour_credit<K: Kind>(
     commitment: u32,
 ) -> Option<u32>
     ensures { MatchOption result (failed_in test.now hour ≡ true)
-        (λ kw. (failed_in test.now hour ≡ false) × (kw ≡ credit reading.now commitment)) }
+        (λ kw. (failed_in test.now hour ≡ false) × (kw ≡ K.credit reading.now commitment)) }
 {
     if failed_in(test, hour) {
         return None;

@@ -67,7 +67,7 @@ fn place_at(index: usize) -> u32
 
 /// Whether a test is as long as the kind wants it.
 fn lasts<K: Kind>(test: &Test) -> bool
-    ensures { result ≡ (nat_le shortest (length test.now.hours.now) && nat_le (length test.now.hours.now) longest) }
+    ensures { result ≡ (nat_le K.shortest (length test.now.hours.now) && nat_le (length test.now.hours.now) K.longest) }
 {
     let hours = test.hours.len() as u64;
     u64::from(K::shortest_test()) <= hours && hours <= u64::from(K::longest_test())
@@ -83,7 +83,7 @@ fn lies_in(begins: u32, ends: u32, test: &Test) -> bool
 
 /// Refuses a test that is not in order for the kind, in a month of the hours from `begins` on and before `ends`.
 pub(crate) fn check_test<K: Kind>(begins: u32, ends: u32, test: &Test) -> Result<(), MeteringFault>
-    ensures { result ≡ (if in_order shortest longest begins ends test.now.first test.now.hours.now then Ok tt else Err (fault.Test (wrong_place test.now.hours.now))) }
+    ensures { result ≡ (if in_order K.shortest K.longest begins ends test.now.first test.now.hours.now then Ok tt else Err (fault.Test (wrong_place test.now.hours.now))) }
 {
     let place = wrong_place(test.hours);
     if place == 0 && lasts::<K>(test) && lies_in(begins, ends, test) {

@@ -1,4 +1,7 @@
 //! How a month's total is shared among the buyers: their rows, what any sharing rule keeps, and the house rules.
+
+#![tactic(auto)]
+
 mod cut;
 mod fault;
 mod remainder;

@@ -1,3 +1,6 @@
 //! Tests of the house rules of sharing.
+
+#![tactic(auto)]
+
 #[cfg(test)]
 mod tests;

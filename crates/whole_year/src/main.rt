@@ -2,6 +2,8 @@
 //! buyers pay, with the refusals met on the way, and the year's totals. Before it the worked January, which is checked,
 //! and the worked run; after it the two house rules side by side.
 
+#![tactic(auto)]
+
 mod answers;
 mod buyers;
 mod claims;

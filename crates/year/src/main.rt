@@ -1,6 +1,8 @@
 //! A settlement, step by step, printed: the year's stress hours, what a facility's month comes to, and what its buyers
 //! pay for it, with the refusals met on the way.
 
+#![tactic(auto)]
+
 mod buyers;
 mod facility;
 mod hours;

@@ -1,4 +1,4 @@
-use Rattle.std.proofs.Common.{◌≡◌, ℕ, ◌+◌, ◌*◌, ◌<◌, ◌≤◌, true, false, List, length, get_or, drop, sym, ap, ◌∙◌, arith}
+use Rattle.std.proofs.Common.{◌≡◌, ℕ, ◌+◌, ◌*◌, ◌<◌, ◌≤◌, true, false, List, length, get_or, drop, inl, sym, ap, ◌∙◌, arith}
 use Rattle.std.specs.Iterator.Adapters.{enumerate_source, enumerate_count}
 use Rattle.std.proofs.lemmas.List.{length-drop}
 use Rattle.calendar.specs.Stress.{stress_hours}
@@ -30,44 +30,45 @@ had g c =
     (c.loop-i.invariant.3 ∙ ap (sum_of g c) (sym steps.1), omega (arith, c.loop-i.invariant.4, steps.1))
 
 -- the next turn, at the sum with one hour more
-next_turn : (g : Over) (c : In-Some g) (sum : ℕ) → sum ≡ sum_of g c (c.in-Some.i + 1) → sum ≤ 4294967295 * (c.in-Some.i + 1) → ((Unit {0}) × (Unit {0}) × (enumerate_count c.next.new.self + length (remaining (enumerate_source c.next.new.self)) < 18446744073709551616)) × Unit {0} × (remaining (enumerate_source c.next.new.self) ≡ drop (enumerate_count c.next.new.self) (hours g c)) × (sum ≡ sum_of g c (enumerate_count c.next.new.self)) × (sum ≤ 4294967295 * enumerate_count c.next.new.self)
+next_turn : (g : Over) (c : In-Some g) (sum : ℕ) → sum ≡ sum_of g c (c.in-Some.i + 1) → sum ≤ 4294967295 * (c.in-Some.i + 1) → (enumerate_count c.next.new.self + length (remaining (enumerate_source c.next.new.self)) < 18446744073709551616) × (remaining (enumerate_source c.next.new.self) ≡ drop (enumerate_count c.next.new.self) (hours g c)) × (sum ≡ sum_of g c (enumerate_count c.next.new.self)) × (sum ≤ 4294967295 * enumerate_count c.next.new.self)
 next_turn g c sum is bound =
     let steps = c.in-Some.ensures.steps in
     let turned : c.in-Some.i + 1 ≡ enumerate_count c.next.new.self = omega (arith, steps.1, steps.2) in
     let here = at_hour g c in (
-      (tt, tt, omega (arith, turned, here.0, ap length here.2, length-drop (c.in-Some.i + 1) (hours g c), stress_hours_few c.args.calendar.now c.args.month)),
-      tt,
+      omega (arith, turned, here.0, ap length here.2, length-drop (c.in-Some.i + 1) (hours g c), stress_hours_few c.args.calendar.now c.args.month),
       here.2 ∙ ap (λ n. drop n (hours g c)) turned,
       is ∙ ap (sum_of g c) turned,
       omega (arith, turned),
     )
 
-pub record-at-record-requires : goal.record-at-record-requires
-record-at-record-requires g c = omega (arith, (at_hour g c).0, c.requires)
+pub record_at-record-requires : goal.record_at-record-requires
+record_at-record-requires g c = omega (arith, (at_hour g c).0, c.requires)
 
-pub loop-i-preserved-in-default : goal.loop-i-preserved-in-default
-loop-i-preserved-in-default g c =
-    let turn = (goal.at.loop-i-preserved-in-default g c).In-Some in
+pub loop-i-preserved-in_default : goal.loop-i-preserved-in_default
+loop-i-preserved-in_default g c =
+    let turn = (goal.at.loop-i-preserved-in_default g c).In-Some in
     let here = at_hour g turn in
     let fails = failed_in c.args.test.now in
-    let failed : fails (get_or (hours g turn) c.in-Some.i 0) ≡ true = ap fails (sym here.1) ∙ c.in-default.ensures in
-    let same = more_failed g.K.Kind.credit c.args.commitment fails (hours g turn) c.args.records.now c.in-Some.i c.record-at-record.result.now here.0 (omega (arith, here.0, c.requires)) c.record-at-record.ensures failed in
-    next_turn g turn c.loop-i.sum ((had g turn).0 ∙ sym same) (omega (arith, (had g turn).1))
+    let failed : fails (get_or (hours g turn) c.in-Some.i 0) ≡ true = ap fails (sym here.1) ∙ c.in_default.ensures in
+    let same = more_failed g.K.Kind.credit c.args.commitment fails (hours g turn) c.args.records.now c.in-Some.i c.record_at-record.result.now here.0 (omega (arith, here.0, c.requires)) c.record_at-record.ensures failed in
+    let next = next_turn g turn c.loop-i.sum ((had g turn).0 ∙ sym same) (omega (arith, (had g turn).1)) in
+    ((tt, tt, inl next.0), tt, next.1, next.2, next.3)
 
-pub overflow-add-sum : goal.overflow-add-sum
-overflow-add-sum g c =
-    let turn = (goal.at.overflow-add-sum g c).In-Some in
-    omega (arith, (had g turn).1, (at_hour g turn).0, stress_hours_few c.args.calendar.now c.args.month, c.in-Some-hour-credit.ensures.1, g.met.K.Kind.bounded c.record-at-record.result.now c.args.commitment)
+pub overflow_add-sum : goal.overflow_add-sum
+overflow_add-sum g c =
+    let turn = (goal.at.overflow_add-sum g c).In-Some in
+    omega (arith, (had g turn).1, (at_hour g turn).0, stress_hours_few c.args.calendar.now c.args.month, c.in-Some-hour_credit.ensures.1, g.met.K.Kind.bounded c.record_at-record.result.now c.args.commitment)
 
 pub loop-i-preserved : goal.loop-i-preserved
 loop-i-preserved g c =
     let turn = (goal.at.loop-i-preserved g c).In-Some in
     let here = at_hour g turn in
     let fails = failed_in c.args.test.now in
-    let credit = c.in-Some-hour-credit.ensures in
+    let credit = c.in-Some-hour_credit.ensures in
     let passed : fails (get_or (hours g turn) c.in-Some.i 0) ≡ false = ap fails (sym here.1) ∙ credit.0 in
-    let more = more_passed g.K.Kind.credit c.args.commitment fails (hours g turn) c.args.records.now c.in-Some.i c.record-at-record.result.now here.0 (omega (arith, here.0, c.requires)) c.record-at-record.ensures passed in
-    next_turn g turn (c.loop-i.sum + c.from-sum.result) (omega (arith, (had g turn).0, more, credit.1, c.from-sum.ensures)) (omega (arith, (had g turn).1, credit.1, c.from-sum.ensures, g.met.K.Kind.bounded c.record-at-record.result.now c.args.commitment))
+    let more = more_passed g.K.Kind.credit c.args.commitment fails (hours g turn) c.args.records.now c.in-Some.i c.record_at-record.result.now here.0 (omega (arith, here.0, c.requires)) c.record_at-record.ensures passed in
+    let next = next_turn g turn (c.loop-i.sum + c.from-sum.result) (omega (arith, (had g turn).0, more, credit.1, c.from-sum.ensures)) (omega (arith, (had g turn).1, credit.1, c.from-sum.ensures, g.met.K.Kind.bounded c.record_at-record.result.now c.args.commitment)) in
+    ((tt, tt, inl next.0), tt, next.1, next.2, next.3)
 
 pub returns : goal.returns
 returns g c =

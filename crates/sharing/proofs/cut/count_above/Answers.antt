@@ -4,8 +4,8 @@ use Rattle.std.proofs.lemmas.List.Sums.{sum_by_more, count_by-le-length}
 use Rattle.sharing.specs.Cut.{count_above}
 use Rattle.sharing.proofs.cut.count_above.Goals as goal
 
-pub with-rem-count-requires : goal.with-rem-count-requires
-with-rem-count-requires c =
+pub with_rem-count-requires : goal.with_rem-count-requires
+with_rem-count-requires c =
     let front = take c.loop-rem.rem-index c.args.rems.now in
     omega (arith, count_by-le-length (λ r. ltb c.args.at r) front, length-take c.loop-rem.rem-index c.args.rems.now)
 

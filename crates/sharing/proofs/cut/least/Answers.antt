@@ -8,5 +8,5 @@ pub loop-low-preserved : goal.loop-low-preserved
 loop-low-preserved c =
     let rems = c.args.rems.now in
     let mid : ℕ = c.loop-low.low + (c.loop-low.high - c.loop-low.low) / 2 in
-    let many : c.args.left < count_above rems mid = leb-false (count_above rems mid) c.args.left (sym c.if-is-enough.ensures) in
+    let many : c.args.left < count_above rems mid = leb-false (count_above rems mid) c.args.left (sym c.if-is_enough.ensures) in
     (omega arith, c.loop-low.invariant.1, c.loop-low.invariant.2, λ s h. omega (arith, above_falls rems s mid (omega arith)))

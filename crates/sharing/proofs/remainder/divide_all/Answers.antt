@@ -48,7 +48,7 @@ loop-i-preserved c =
     let paid : (get_or (set ys i row) i no_row).charge ≡ get_or cs i 0 = ap (λ r. r.charge) (get_or-set_same ys i row no_row (omega arith) ∙ c.divide.ensures.charges) ∙ cents in (
       charged_more rows ys cs i so_far.0 row (cents_of total whole (get_or ys i no_row).mwh) c.divide.ensures.charges cents (length-whole_cents total whole ms ∙ length-mwhs rows) c.loop-i-test.true,
       take_more_same (set c.loop-i.rems i rest) rs i 0 (omega (arith, length-set c.loop-i.rems i rest)) (omega (arith, length-remainders total whole ms)) (take-set c.loop-i.rems i rest ∙ so_far.1) (get_or-set_same c.loop-i.rems i rest 0 in-rems ∙ left),
-      omega (arith, so_far.2, c.left-after-left.ensures, parts_more cs i (omega (arith, length-whole_cents total whole ms))),
+      omega (arith, so_far.2, c.left_after-left.ensures, parts_more cs i (omega (arith, length-whole_cents total whole ms))),
     )
 
 pub returns : goal.returns

@@ -13,8 +13,8 @@ use Rattle.sharing.proofs.remainder.hand_out.Goals as goal
 pub loop-i-init : goal.loop-i-init
 loop-i-init c = (sym (charged_none c.args.rows.now), refl, sym (sub-zero c.find-cut.result.ties))
 
-pub charge-more-requires : goal.charge-more-requires
-charge-more-requires c =
+pub charge_more-requires : goal.charge_more-requires
+charge_more-requires c =
     let rows = c.args.rows.now in
     let i = c.loop-i.i in
     let inside : i < length (charges_in rows) = omega (arith, length-charges_in rows) in
@@ -40,7 +40,7 @@ loop-i-preserved c =
     let cent : c.next.result ≡ one_more rems left i = c.next.ensures.cent ∙ ap (λ t. cent_at t cut.ties rem) so_far.1 ∙ ap (λ n. cent_at at n rem) ties ∙ cut_cent rems i in-rems left at c.find-cut.ensures.at in
     let more = with_more_at (charges_in rows) rems left i (omega (arith, length-charges_in rows)) in
     let tied : ◌≡◌ {A = ℕ} (cond (eqb rem cut.at) 1 0) (cond (eqb rem at) 1 0) = ap (λ t. cond (eqb rem t) 1 0) so_far.1 in (
-      charged_more rows c.loop-i.rows cs i so_far.0 c.charge-more.new.row ((get_or c.loop-i.rows i no_row).charge + c.next.result) c.charge-more.ensures (omega arith) (length-with_more (charges_in rows) rems left ∙ length-charges_in rows) c.loop-i-test.true,
+      charged_more rows c.loop-i.rows cs i so_far.0 c.charge_more.new.row ((get_or c.loop-i.rows i no_row).charge + c.next.result) c.charge_more.ensures (omega arith) (length-with_more (charges_in rows) rems left ∙ length-charges_in rows) c.loop-i-test.true,
       c.next.ensures.same ∙ so_far.1,
       omega (arith, so_far.2, c.next.ensures.ties, at_more rems at i in-rems),
     )

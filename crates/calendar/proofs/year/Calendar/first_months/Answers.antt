@@ -9,9 +9,9 @@ loop-i-preserved c =
     let year = days c.args.self.now.year_hours in
     omega (arith, sum_by_more (λ x. x) year c.loop-i.i 0 (omega arith), ap (λ (l : List ℕ). get_or l c.loop-i.i 0) c.days-days.ensures)
 
-pub overflow-mul-result : goal.overflow-mul-result
+pub overflow_mul-result : goal.overflow_mul-result
 unfolding first_months
-overflow-mul-result c =
+overflow_mul-result c =
     let year = c.args.self.now in
     omega (arith, first_months_within year.year_hours c.loop-i.i year.year, year_most year.year_hours year.year)
 

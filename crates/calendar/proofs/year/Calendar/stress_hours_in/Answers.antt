@@ -9,17 +9,17 @@ use Rattle.calendar.proofs.Stress.{length-stress_hours, parts_most}
 use Rattle.calendar.proofs.year.Calendar.stress_hours_in.Goals as goal
 
 -- one run more
-more : (c : goal.After-saturating-sub-hours) → c.loop-run.hours + c.saturating-sub-hours.result ≡ sum_by (part_hours c.month-begins-begins.result c.month-ends-ends.result) (take (c.loop-run.run_index + 1) c.runs-run-items.result.now)
+more : (c : goal.After-saturating_sub-hours) → c.loop-run.hours + c.saturating_sub-hours.result ≡ sum_by (part_hours c.month_begins-begins.result c.month_ends-ends.result) (take (c.loop-run.run-index + 1) c.runs-run-items.result.now)
 more c =
-    omega (arith, sum_by_more (part_hours c.month-begins-begins.result c.month-ends-ends.result) c.runs-run-items.result.now c.loop-run.run_index no_run (omega arith))
+    omega (arith, sum_by_more (part_hours c.month_begins-begins.result c.month_ends-ends.result) c.runs-run-items.result.now c.loop-run.run-index no_run (omega arith))
 
-pub overflow-add-hours : goal.overflow-add-hours
-overflow-add-hours c =
-    let begins = c.month-begins-begins.result in
-    let ends = c.month-ends-ends.result in
+pub overflow_add-hours : goal.overflow_add-hours
+overflow_add-hours c =
+    let begins = c.month_begins-begins.result in
+    let ends = c.month_ends-ends.result in
     let runs = c.runs-run-items.result.now in
     let few : sum_by (part_hours begins ends) runs ≤ 878 = rw c.runs-run-items.ensures (parts_most c.args.self.now begins ends) in
-    omega (arith, more c, few, sum_by-take-le (part_hours begins ends) runs (c.loop-run.run_index + 1))
+    omega (arith, more c, few, sum_by-take-le (part_hours begins ends) runs (c.loop-run.run-index + 1))
 
 pub loop-run-preserved : goal.loop-run-preserved
 loop-run-preserved c = more c
@@ -27,9 +27,9 @@ loop-run-preserved c = more c
 pub returns : goal.returns
 returns c =
     let year = c.args.self.now in
-    let begins = c.month-begins-begins.result in
-    let ends = c.month-ends-ends.result in
-    let all = take_all c.loop-run.run_index c.runs-run-items.result.now (omega arith) in
+    let begins = c.month_begins-begins.result in
+    let ends = c.month_ends-ends.result in
+    let all = take_all c.loop-run.run-index c.runs-run-items.result.now (omega arith) in
     let whole = c.loop-run.invariant ∙ ap (λ (rs : List Run). sum_by (part_hours begins ends) rs) (all ∙ c.runs-run-items.ensures) in
-    let month = ap₂ (λ (from to : ℕ). sum_by (part_hours from to) (runs_of year)) c.month-begins-begins.ensures.value c.month-ends-ends.ensures.value in
+    let month = ap₂ (λ (from to : ℕ). sum_by (part_hours from to) (runs_of year)) c.month_begins-begins.ensures.value c.month_ends-ends.ensures.value in
     record { value = whole ∙ month ∙ sym (length-stress_hours year c.args.month); bound = omega (arith, whole, parts_most year begins ends) }

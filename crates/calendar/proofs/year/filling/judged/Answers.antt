@@ -7,15 +7,15 @@ use Rattle.calendar.proofs.year.filling.judged.Goals as goal
 
 pub returns : goal.returns
 returns c =
-    let year = c.args.year-hours in
-    let runs = c.given-runs-runs.result in
+    let year = c.args.year_hours in
+    let runs = c.given_runs-runs.result in
     let count = length c.args.firsts.now in
     let whole : take (count - 0) runs ≡ given_runs c.args.firsts.now c.args.lengths.now =
-    ap (λ (n : ℕ). take n runs) (sub-zero count) ∙ c.given-runs-runs.ensures in (
+    ap (λ (n : ℕ). take n runs) (sub-zero count) ∙ c.given_runs-runs.ensures in (
       search rules,
       search rules,
-      subst (λ (rs : List Run). Throughout (InForm year rs) rs) whole c.in-default.ensures,
-      subst (RightShare year) whole (c.right-share.ensures.0 c.if-not-right-share.false),
+      subst (λ (rs : List Run). Throughout (InForm year rs) rs) whole c.in_default.ensures,
+      subst (RightShare year) whole (c.right_share.ensures.0 c.if-not-right_share.false),
       refl,
-      c.given-runs-runs.ensures,
+      c.given_runs-runs.ensures,
     )

@@ -21,25 +21,25 @@ charged_by_remainder c w rows once twice rests left whole rems over more =
     more ∙ ap (charged once) same ∙ ap (λ l. charged l cs) whole
     ∙ charged_again rows (whole_cents c w (mwhs rows)) cs (length-by_remainder c w (mwhs rows) ∙ length-mwhs rows)
 
-pub slice-bounds-room-end : goal.slice-bounds-room-end
-slice-bounds-room-end c =
+pub slice_bounds-room-end : goal.slice_bounds-room-end
+slice_bounds-room-end c =
     let few : length c.args.rows.now ≤ 1024 = omega (arith, c.requires.rows, length-mwhs c.args.rows.now) in
     search rules
 
-pub hand-out-requires : goal.hand-out-requires
-hand-out-requires c =
+pub hand_out-requires : goal.hand_out-requires
+hand_out-requires c =
     let rows = c.args.rows.now in
     let ms = mwhs rows in
     let total = c.args.total in
-    let whole = c.in-ok-whole.whole in
-    let weighed = c.in-ok-whole.ensures in
-    let divided = c.divide-all-left.ensures in
-    let charges = charges_whole total whole rows c.divide-all-left.new.rows divided.charges in
+    let whole = c.in_ok-whole.whole in
+    let weighed = c.in_ok-whole.ensures in
+    let divided = c.divide_all-left.ensures in
+    let charges = charges_whole total whole rows c.divide_all-left.new.rows divided.charges in
     let small : sum (whole_cents total whole ms) ≤ total * sum ms = whole_cents_small total whole ms in
     let most : total * sum ms ≤ 30_000_000_000 * 40_000_000 = mul-le-mul c.requires.cents c.requires.mwh in
     record {
-      few = omega (arith, c.divide-all-left.auto.rows, length-mwhs rows, c.requires.rows);
-      each = ap length divided.rests ∙ length-remainders total whole ms ∙ length-mwhs rows ∙ sym c.divide-all-left.auto.rows;
+      few = omega (arith, c.divide_all-left.auto.rows, length-mwhs rows, c.requires.rows);
+      each = ap length divided.rests ∙ length-remainders total whole ms ∙ length-mwhs rows ∙ sym c.divide_all-left.auto.rows;
       top = ap (λ l. count_above l whole) divided.rests ∙ none_above total whole ms weighed.1;
       fits = rw charges (omega arith);
     }
@@ -49,14 +49,14 @@ returns c =
     let rows = c.args.rows.now in
     let ms = mwhs rows in
     let total = c.args.total in
-    let whole = c.in-ok-whole.whole in
-    let weighed = c.in-ok-whole.ensures in
-    let divided = c.divide-all-left.ensures in
+    let whole = c.in_ok-whole.whole in
+    let weighed = c.in_ok-whole.ensures in
+    let divided = c.divide_all-left.ensures in
     let some : sum ms ≡ 0 → total ≡ 0 = λ z. weighed.1 (weighed.0 ∙ z) in
     let cs = by_remainder total (sum ms) ms in
     let long : length cs ≡ length rows = length-by_remainder total (sum ms) ms ∙ length-mwhs rows in
-    let done : c.hand-out.new.rows ≡ charged rows cs = charged_by_remainder total whole rows c.divide-all-left.new.rows c.hand-out.new.rows c.divide-all-left.new.rems c.divide-all-left.result divided.charges divided.rests divided.left c.hand-out.ensures ∙ ap (λ w. charged rows (by_remainder total w ms)) weighed.0 in
-    let charges : charges_in c.hand-out.new.rows ≡ cs = ap charges_in done ∙ charges_in_charged rows cs long in
+    let done : c.hand_out.new.rows ≡ charged rows cs = charged_by_remainder total whole rows c.divide_all-left.new.rows c.hand_out.new.rows c.divide_all-left.new.rems c.divide_all-left.result divided.charges divided.rests divided.left c.hand_out.ensures ∙ ap (λ w. charged rows (by_remainder total w ms)) weighed.0 in
+    let charges : charges_in c.hand_out.new.rows ≡ cs = ap charges_in done ∙ charges_in_charged rows cs long in
     record {
       shares = (some, done);
       fair = λ _. let P : List ℕ → Type 0 = λ l. Fair total ms l in subst P (sym charges) (remainder_fair total ms some);

@@ -9,21 +9,21 @@ use Rattle.std.proofs.iter.Next.{firm}
 
 pub returns-in-Some : goal.returns-in-Some
 returns-in-Some c =
-    let gone = sym c.loop-hour.invariant ∙ step_in_run c.loop-hour.self c.next-in-run.new.self c.in-Some.hour c.in-Some.ensures in
+    let gone = sym c.loop-hour.invariant ∙ step_in_run c.loop-hour.self c.next_in_run.new.self c.in-Some.hour c.in-Some.ensures in
     record { steps = gone; goes = firm ((tt, tt, omega (arith, ap length gone))) (λ h. search rules) }
 
-pub returns-in-default-split-first : goal.returns-in-default-split-first
-returns-in-default-split-first c =
-    let w = c.next-in-run.new.self in
+pub returns-in_default-split_first : goal.returns-in_default-split_first
+returns-in_default-split_first c =
+    let w = c.next_in_run.new.self in
     let month = part w.begins w.ends in
     let none : remaining c.loop-hour.self ≡ [] =
-    run_over c.loop-hour.self w c.in-default.ensures ∙ ap (flat_map month) (nil_from_length w.runs.now c.in-default-split-first.ensures.cases) in
-    record { steps = (sym c.loop-hour.invariant ∙ none, ap remaining c.in-default.ensures.1 ∙ none); goes = firm (tt) (λ h. search rules) }
+    run_over c.loop-hour.self w c.in_default.ensures ∙ ap (flat_map month) (nil_from_length w.runs.now c.in_default-split_first.ensures.cases) in
+    record { steps = (sym c.loop-hour.invariant ∙ none, ap remaining c.in_default.ensures.1 ∙ none); goes = firm (tt) (λ h. search rules) }
 
 pub loop-hour-preserved : goal.loop-hour-preserved
 loop-hour-preserved c =
-    let w = c.next-in-run.new.self in
+    let w = c.next_in_run.new.self in
     let month = part w.begins w.ends in
-    let split = run_over c.loop-hour.self w c.in-default.ensures ∙ ap (flat_map month) c.in-Some-split-first.ensures.cases.0 in
-    ap (λ (l : List ℕ). l ++ flat_map month c.in-Some-split-first.rest.now) (ap₂ span c.part.ensures.first c.part.ensures.ends)
+    let split = run_over c.loop-hour.self w c.in_default.ensures ∙ ap (flat_map month) c.in-Some-split_first.ensures.cases.0 in
+    ap (λ (l : List ℕ). l ++ flat_map month c.in-Some-split_first.rest.now) (ap₂ span c.part.ensures.first c.part.ensures.ends)
     ∙ sym split ∙ c.loop-hour.invariant
