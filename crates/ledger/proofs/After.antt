@@ -27,17 +27,17 @@ use Rattle.ledger.proofs.Traded.{Awardable, Cedable, awarded_wide, awarded_withi
 abbrev pub ledger_of : (b : Book) → Kept b → Ledger
 ledger_of b k = record {
   book = b;
-  sized = k.0;
-  shaped = k.1.0;
-  wide = k.1.1.0;
-  lined = k.1.1.1.0;
-  booked = k.1.1.1.1.0;
-  firm = k.1.1.1.1.1.0;
-  vacant = k.1.1.1.1.1.1.0;
-  within = k.1.1.1.1.1.1.1.0;
-  whole = k.1.1.1.1.1.1.1.1.0;
-  priced = k.1.1.1.1.1.1.1.1.1.0;
-  dated = k.1.1.1.1.1.1.1.1.1.1.0;
+  sized = k.sized;
+  shaped = k.shaped;
+  wide = k.wide;
+  lined = k.lined;
+  booked = k.booked;
+  firm = k.firm;
+  vacant = k.vacant;
+  within = k.within;
+  whole = k.whole;
+  priced = k.priced;
+  dated = k.dated;
 }
 
 module _ (l : Ledger) where
@@ -46,25 +46,68 @@ module _ (l : Ledger) where
 
   -- another stage, of a month of the year
   pub staged_kept : (s : Stage) → Dated (month_of s) → Kept (with_stage b s)
-  staged_kept s dated = (l.sized, (l.shaped, (l.wide, (l.lined, (l.booked, (l.firm, (l.vacant, (l.within, (l.whole, (l.priced, (dated, tt)))))))))))
+  staged_kept s dated = record {
+    sized = l.sized;
+    shaped = l.shaped;
+    wide = l.wide;
+    lined = l.lined;
+    booked = l.booked;
+    firm = l.firm;
+    vacant = l.vacant;
+    within = l.within;
+    whole = l.whole;
+    priced = l.priced;
+    dated = dated;
+  }
 
   -- another calendar
   pub filled_kept : (c : Calendar) (s : Stage) → Dated (month_of s) → Kept (with_stage (with_calendar b c) s)
-  filled_kept c s dated = (l.sized, (l.shaped, (l.wide, (l.lined, (l.booked, (l.firm, (l.vacant, (l.within, (l.whole, (l.priced, (dated, tt)))))))))))
+  filled_kept c s dated = record {
+    sized = l.sized;
+    shaped = l.shaped;
+    wide = l.wide;
+    lined = l.lined;
+    booked = l.booked;
+    firm = l.firm;
+    vacant = l.vacant;
+    within = l.within;
+    whole = l.whole;
+    priced = l.priced;
+    dated = dated;
+  }
 
   -- other reports and claims of the month
   pub month_kept : (measured : List (Option Measured)) (claims : List Claim) → length measured ≡ 64 → length claims ≡ 64 → Kept (with_month b (record { measured = measured; claims = claims }))
-  month_kept measured claims reports claimed = (l.sized, ((l.shaped.0, l.shaped.1, reports, claimed, l.shaped.4), (l.wide, (l.lined, (l.booked, (l.firm, (l.vacant, (l.within, (l.whole, (l.priced, (l.dated, tt)))))))))))
+  month_kept measured claims reports claimed = record {
+    sized = l.sized;
+    shaped = (l.shaped.0, l.shaped.1, reports, claimed, l.shaped.4);
+    wide = l.wide;
+    lined = l.lined;
+    booked = l.booked;
+    firm = l.firm;
+    vacant = l.vacant;
+    within = l.within;
+    whole = l.whole;
+    priced = l.priced;
+    dated = l.dated;
+  }
 
   pub registered_kept : (letter power : ℕ) → b.register.count < 64 → power ≤ 1_000_000 → Kept (registered b letter power)
   registered_kept letter power room few =
-      let inside : b.register.count < length b.register.facilities = omega (arith, room, l.shaped.0) in (
-        (omega (arith, room), l.sized.1),
-        (
-          (length-set b.register.facilities b.register.count (record { letter = letter; firm = power; on = mathlib.Core.Bool.false }) ∙ l.shaped.0, l.shaped.1, l.shaped.2, l.shaped.3, l.shaped.4),
-          (l.wide, (l.lined, (l.booked, (registered_firm b letter power inside few l.firm, (registered_vacant b letter power inside l.vacant, (registered_within b letter power inside l.vacant l.within, (l.whole, (l.priced, (l.dated, tt))))))))),
-        ),
-      )
+      let inside : b.register.count < length b.register.facilities = omega (arith, room, l.shaped.0) in
+      record {
+        sized = (omega (arith, room), l.sized.1);
+        shaped = (length-set b.register.facilities b.register.count (record { letter = letter; firm = power; on = mathlib.Core.Bool.false }) ∙ l.shaped.0, l.shaped.1, l.shaped.2, l.shaped.3, l.shaped.4);
+        wide = l.wide;
+        lined = l.lined;
+        booked = l.booked;
+        firm = registered_firm b letter power inside few l.firm;
+        vacant = registered_vacant b letter power inside l.vacant;
+        within = registered_within b letter power inside l.vacant l.within;
+        whole = l.whole;
+        priced = l.priced;
+        dated = l.dated;
+      }
 
   -- switching leaves each facility's firm power
   switched_firm : (f : ℕ) (on : Bool) → f - 1 < 64 → (i : ℕ) → (facility_at (switched b f on).register i).firm ≡ (facility_at b.register i).firm
@@ -74,34 +117,55 @@ module _ (l : Ledger) where
 
   pub switched_kept : (f : ℕ) (on : Bool) → f - 1 < 64 → Kept (switched b f on)
   switched_kept f on inside =
-      let same = switched_firm f on inside in (
-        l.sized,
-        (
-          (length-set b.register.facilities (f - 1) (set_on (facility_at b.register (f - 1)) on) ∙ l.shaped.0, l.shaped.1, l.shaped.2, l.shaped.3, l.shaped.4),
-          (l.wide, (l.lined, (l.booked, ((λ i. omega (arith, same i, l.firm i)), ((λ i past. same i ∙ l.vacant i past), ((λ i. omega (arith, same i, l.within i)), (l.whole, (l.priced, (l.dated, tt))))))))),
-        ),
-      )
+      let same = switched_firm f on inside in
+      record {
+        sized = l.sized;
+        shaped = (length-set b.register.facilities (f - 1) (set_on (facility_at b.register (f - 1)) on) ∙ l.shaped.0, l.shaped.1, l.shaped.2, l.shaped.3, l.shaped.4);
+        wide = l.wide;
+        lined = l.lined;
+        booked = l.booked;
+        firm = λ i. omega (arith, same i, l.firm i);
+        vacant = λ i past. same i ∙ l.vacant i past;
+        within = λ i. omega (arith, same i, l.within i);
+        whole = l.whole;
+        priced = l.priced;
+        dated = l.dated;
+      }
 
   pub awarded_kept : (f kw price : ℕ) → Awardable b f kw price → Kept (awarded b f kw price)
   awarded_kept f kw price ok =
-      let long = l.shaped.1 in (
-        (l.sized.0, omega (arith, ok.room)),
-        (
-          (l.shaped.0, length-set b.trade.awards b.trade.count (new_award f kw price) ∙ long, l.shaped.2, l.shaped.3, l.shaped.4),
-          (awarded_wide b f kw price ok long l.sized l.wide, (l.lined, (l.booked, (l.firm, (l.vacant, (awarded_within b f kw price ok long l.sized l.within, (awarded_whole b f kw price ok long l.sized l.whole, (awarded_priced b f kw price ok long l.sized l.priced, (l.dated, tt))))))))),
-        ),
-      )
+      let long = l.shaped.1 in
+      record {
+        sized = (l.sized.0, omega (arith, ok.room));
+        shaped = (l.shaped.0, length-set b.trade.awards b.trade.count (new_award f kw price) ∙ long, l.shaped.2, l.shaped.3, l.shaped.4);
+        wide = awarded_wide b f kw price ok long l.sized l.wide;
+        lined = l.lined;
+        booked = l.booked;
+        firm = l.firm;
+        vacant = l.vacant;
+        within = awarded_within b f kw price ok long l.sized l.within;
+        whole = awarded_whole b f kw price ok long l.sized l.whole;
+        priced = awarded_priced b f kw price ok long l.sized l.priced;
+        dated = l.dated;
+      }
 
   pub ceded_kept : (a giver taker kw : ℕ) → Cedable b a giver taker kw → Kept (ceded b a giver taker kw)
   ceded_kept a giver taker kw ok =
       let long = l.shaped.1 in
-      let old = award_at b.trade (a - 1) in (
-        l.sized,
-        (
-          (l.shaped.0, length-set b.trade.awards (a - 1) (with_held old (shifted old.held (giver - 1) (taker - 1) kw)) ∙ long, l.shaped.2, l.shaped.3, l.shaped.4),
-          (ceded_wide b a giver taker kw ok long l.sized l.wide, (l.lined, (l.booked, (l.firm, (l.vacant, (ceded_within b a giver taker kw ok long l.sized l.wide l.within, (ceded_whole b a giver taker kw ok long l.sized l.wide l.whole, (ceded_priced b a giver taker kw ok long l.sized l.wide l.priced, (l.dated, tt))))))))),
-        ),
-      )
+      let old = award_at b.trade (a - 1) in
+      record {
+        sized = l.sized;
+        shaped = (l.shaped.0, length-set b.trade.awards (a - 1) (with_held old (shifted old.held (giver - 1) (taker - 1) kw)) ∙ long, l.shaped.2, l.shaped.3, l.shaped.4);
+        wide = ceded_wide b a giver taker kw ok long l.sized l.wide;
+        lined = l.lined;
+        booked = l.booked;
+        firm = l.firm;
+        vacant = l.vacant;
+        within = ceded_within b a giver taker kw ok long l.sized l.wide l.within;
+        whole = ceded_whole b a giver taker kw ok long l.sized l.wide l.whole;
+        priced = ceded_priced b a giver taker kw ok long l.sized l.wide l.priced;
+        dated = l.dated;
+      }
 
   -- the lines of a month have their bounds
   lines_bounded : (m f : ℕ) → Bounded (line_at (month_lines b m) f)
@@ -111,10 +175,17 @@ module _ (l : Ledger) where
   pub closed_kept : Kept (closed b)
   closed_kept =
       let m = month_of b.stage in
-      let inside : m - 1 < length b.lines = omega (arith, l.shaped.4, l.dated.0, l.dated.1) in (
-        l.sized,
-        (
-          (l.shaped.0, l.shaped.1, refl, refl, length-set b.lines (m - 1) (month_lines b m) ∙ l.shaped.4),
-          (l.wide, (booked_lined b (m - 1) (month_lines b m) inside (length-month_lines b m) l.lined, (booked_bounded b (m - 1) (month_lines b m) inside (lines_bounded m) l.booked, (l.firm, (l.vacant, (l.within, (l.whole, (l.priced, (closed_dated b.stage l.dated, tt))))))))),
-        ),
-      )
+      let inside : m - 1 < length b.lines = omega (arith, l.shaped.4, l.dated.0, l.dated.1) in
+      record {
+        sized = l.sized;
+        shaped = (l.shaped.0, l.shaped.1, refl, refl, length-set b.lines (m - 1) (month_lines b m) ∙ l.shaped.4);
+        wide = l.wide;
+        lined = booked_lined b (m - 1) (month_lines b m) inside (length-month_lines b m) l.lined;
+        booked = booked_bounded b (m - 1) (month_lines b m) inside (lines_bounded m) l.booked;
+        firm = l.firm;
+        vacant = l.vacant;
+        within = l.within;
+        whole = l.whole;
+        priced = l.priced;
+        dated = closed_dated b.stage l.dated;
+      }

@@ -1,5 +1,5 @@
 -- What a blank book keeps. Assumes nothing.
-use Rattle.std.proofs.Common.{◌≡◌, ℕ, ◌<◌, ◌≤◌, [], length, get_or, replicate, sym, refl, ap, ◌∙◌, subst, inl, inr, arith, lit≤}
+use Rattle.std.proofs.Common.{◌≡◌, ℕ, ◌<◌, [], length, get_or, replicate, sym, refl, ap, ◌∙◌, subst, inl, inr, arith, lit≤}
 use Rattle.std.proofs.lemmas.List.{length-replicate, get_or-replicate, get_or_past}
 use Rattle.std.proofs.lemmas.Bool.{cases_lt}
 use Rattle.calendar.specs.declared.year.Calendar.{Calendar}
@@ -20,7 +20,17 @@ pub blank_kept : (c : Calendar) → Kept (blank c)
 blank_kept c =
     let none : (f : ℕ) → (get_or (replicate 64 no_facility) f no_facility).firm ≡ 0 = λ f. ap (λ x. x.firm) (same_at 64 f no_facility) in
     let each : (m : ℕ) → m < 12 → length (get_or (replicate 12 (replicate 64 no_line)) m []) ≡ 64 = λ m lt. ap length (get_or-replicate 12 m (replicate 64 no_line) [] lt) in
-    let bounded : (m f : ℕ) → Bounded (get_or (get_or (replicate 12 (replicate 64 no_line)) m []) f no_line) = λ m f. subst Bounded (sym (empty_line 12 64 m f)) (lit≤ tt, lit≤ tt) in (
-      (lit≤ tt, lit≤ tt),
-      ((refl, refl, refl, refl, refl), ((λ a lt. omega arith), (each, (bounded, ((λ f. omega (arith, none f)), ((λ f _. none f), ((λ f. omega (arith, none f)), ((λ a lt. omega arith), ((λ a lt. (omega arith, omega arith, omega arith, omega arith)), ((lit≤ tt, lit≤ tt), tt)))))))))),
-    )
+    let bounded : (m f : ℕ) → Bounded (get_or (get_or (replicate 12 (replicate 64 no_line)) m []) f no_line) = λ m f. subst Bounded (sym (empty_line 12 64 m f)) (lit≤ tt, lit≤ tt) in
+    record {
+      sized = (lit≤ tt, lit≤ tt);
+      shaped = (refl, refl, refl, refl, refl);
+      wide = λ a lt. omega arith;
+      lined = each;
+      booked = bounded;
+      firm = λ f. omega (arith, none f);
+      vacant = λ f _. none f;
+      within = λ f. omega (arith, none f);
+      whole = λ a lt. omega arith;
+      priced = λ a lt. (omega arith, omega arith, omega arith, omega arith);
+      dated = (lit≤ tt, lit≤ tt);
+    }

@@ -3,15 +3,16 @@ use Rattle.ledger.specs.declared.state.Book.{Book}
 use Rattle.ledger.specs.Form.{month_of, Sized, Shaped, Wide, Lined, Booked, Firm, Vacant, Within, Whole, Priced, Dated}
 
 abbrev pub Kept : Book → Type 0
-Kept b =
-    Sized b
-    × (Shaped b
-    × (Wide b.trade
-    × (Lined b
-    × (Booked b
-    × (Firm b.register
-    × (Vacant b.register
-    × (Within b
-    × (Whole b.trade
-    × (Priced b.trade
-    × (Dated (month_of b.stage) × Unit {0}))))))))))
+Kept b = record {
+  sized : Sized b;
+  shaped : Shaped b;
+  wide : Wide b.trade;
+  lined : Lined b;
+  booked : Booked b;
+  firm : Firm b.register;
+  vacant : Vacant b.register;
+  within : Within b;
+  whole : Whole b.trade;
+  priced : Priced b.trade;
+  dated : Dated (month_of b.stage);
+}

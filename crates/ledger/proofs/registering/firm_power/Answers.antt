@@ -5,8 +5,8 @@ use Rattle.ledger.specs.Registering.{right_module, watts}
 use Rattle.ledger.proofs.Modules.{no_module, right_each, watts_few}
 use Rattle.ledger.proofs.registering.firm_power.Goals as goal
 
-pub with-module-sum-requires : goal.with-module-sum-requires
-with-module-sum-requires c =
+pub with_module-sum-requires : goal.with_module-sum-requires
+with_module-sum-requires c =
     let ms = c.args.modules in
     let n = c.args.count in
     let i = c.loop-i.i in
@@ -23,4 +23,4 @@ loop-i-preserved c =
     let right = ap right_module (sym (get_or-take n ms i no_module (omega arith))) ∙ right_each (take n ms) i (omega (arith, length-take-le n ms (omega arith))) c.requires.right in
     let more = sum_by_more watts ms i no_module (omega arith) in
     let few = watts_few (get_or ms i no_module) right in
-    (omega (arith, more, c.with-module-sum.ensures), omega (arith, few, c.with-module-sum.ensures))
+    (omega (arith, more, c.with_module-sum.ensures), omega (arith, few, c.with_module-sum.ensures))

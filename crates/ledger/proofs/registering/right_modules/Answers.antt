@@ -10,12 +10,12 @@ from_here : (ms : List Module) (n i : ℕ) → i < n → n ≤ length ms → rig
 from_here ms n i lt le =
     right_more (take n ms) i (omega (arith, length-take-le n ms le)) ∙ ap (λ m. right_module m && right_modules (drop (i + 1) (take n ms))) (get_or-take n ms i no_module lt)
 
-pub returns-then-not-right-module : goal.returns-then-not-right-module
-returns-then-not-right-module c =
+pub returns-then-not-right_module : goal.returns-then-not-right_module
+returns-then-not-right_module c =
     let ms = c.args.modules in
     let n = c.args.count in
     let i = c.loop-i.i in
-    let wrong = sym c.right_module.ensures ∙ c.if-not-right-module.true in
+    let wrong = sym c.right_module.ensures ∙ c.if-not-right_module.true in
     sym (c.loop-i.invariant ∙ from_here ms n i (omega arith) (omega arith) ∙ ap (λ b. b && right_modules (drop (i + 1) (take n ms))) wrong)
 
 pub loop-i-preserved : goal.loop-i-preserved
@@ -23,7 +23,7 @@ loop-i-preserved c =
     let ms = c.args.modules in
     let n = c.args.count in
     let i = c.loop-i.i in
-    let right = sym c.right_module.ensures ∙ c.if-not-right-module.false in
+    let right = sym c.right_module.ensures ∙ c.if-not-right_module.false in
     c.loop-i.invariant ∙ from_here ms n i (omega arith) (omega arith) ∙ ap (λ b. b && right_modules (drop (i + 1) (take n ms))) right
 
 pub returns : goal.returns

@@ -12,10 +12,10 @@ use Rattle.ledger.proofs.Traded.{cedable, apart_places}
 use Rattle.ledger.proofs.After.{ceded_kept}
 use Rattle.ledger.proofs.kept.Ledger.cede.Goals as goal
 
-pub returns-in-err-may-cede : goal.returns-in-err-may-cede
-returns-in-err-may-cede c =
+pub returns-in_err-may_cede : goal.returns-in_err-may_cede
+returns-in_err-may_cede c =
     let b = c.args.self.now.book in
-    let exit = refused_exit (cede_rows b c.args.award c.args.giver c.args.taker c.args.kw) tt (Ok tt) c.in-err-may-cede.field-0.0 c.from-residual.result c.in-err-may-cede.ensures c.from-residual.ensures.1 in
+    let exit = refused_exit (cede_rows b c.args.award c.args.giver c.args.taker c.args.kw) tt (Ok tt) c.in_err-may_cede.field-0.0 c.from_residual.result c.in_err-may_cede.ensures c.from_residual.ensures.1 in
     let after = exit.1 (ceded b c.args.award c.args.giver c.args.taker c.args.kw) b in
     record { answer = exit.0; after = after; recorded = λ j h. noted j _ c.args.self.now _ h (exit.0, after) }
 
@@ -26,7 +26,7 @@ shift-requires c =
     let a = c.args.award in
     let giver = c.args.giver in
     let taker = c.args.taker in
-    let ok = cedable b a giver taker c.args.kw (sym c.in-ok-may-cede.ensures) in
+    let ok = cedable b a giver taker c.args.kw (sym c.in_ok-may_cede.ensures) in
     let most = front_le (held_under (taker - 1)) b.trade.awards (a - 1) b.trade.count no_award (omega (arith, ok.award_from, ok.award_to)) (omega (arith, s.shaped.1, s.sized.1)) in
     record {
       wide = s.wide (a - 1) (omega (arith, ok.award_from, ok.award_to));
@@ -41,16 +41,16 @@ pub returns : goal.returns
 returns c =
     let b = c.args.self.now.book in
     let a = c.args.award in
-    let answer = accepted_exit (cede_rows b a c.args.giver c.args.taker c.args.kw) tt c.in-ok-may-cede.field-0 c.in-ok-may-cede.ensures in
+    let answer = accepted_exit (cede_rows b a c.args.giver c.args.taker c.args.kw) tt c.in_ok-may_cede.field-0 c.in_ok-may_cede.ensures in
     let after = ap (λ x. with_trade b (record { awards = set b.trade.awards (a - 1) x; count = b.trade.count })) c.shift.ensures in
     record { answer = answer; after = after; recorded = λ j h. noted j _ c.args.self.now _ h (answer, after) }
 
-pub invariant-of-self : goal.invariant-of-self
-invariant-of-self c =
+pub invariant_of-self : goal.invariant_of-self
+invariant_of-self c =
     let b = c.args.self.now.book in
     let a = c.args.award in
     let giver = c.args.giver in
     let taker = c.args.taker in
     let kw = c.args.kw in
     let after : Award → Book = λ x. with_trade b (record { awards = set b.trade.awards (a - 1) x; count = b.trade.count }) in
-    subst (λ x. Kept (after x)) (sym c.shift.ensures) (ceded_kept c.args.self.now a giver taker kw (cedable b a giver taker kw (sym c.in-ok-may-cede.ensures)))
+    subst (λ x. Kept (after x)) (sym c.shift.ensures) (ceded_kept c.args.self.now a giver taker kw (cedable b a giver taker kw (sym c.in_ok-may_cede.ensures)))

@@ -5,16 +5,16 @@ use Rattle.ledger.specs.Runs.{noted}
 use Rattle.ledger.proofs.JudgedRows.{refused_exit, accepted_exit}
 use Rattle.ledger.proofs.kept.Ledger.claim.Goals as goal
 
-pub returns-in-err-may-claim : goal.returns-in-err-may-claim
-returns-in-err-may-claim c =
+pub returns-in_err-may_claim : goal.returns-in_err-may_claim
+returns-in_err-may_claim c =
     let b = c.args.self.now.book in
-    let exit = refused_exit (claim_rows b c.args.facility) tt (Ok tt) c.in-err-may-claim.field-0.0 c.from-residual.result c.in-err-may-claim.ensures c.from-residual.ensures.1 in
+    let exit = refused_exit (claim_rows b c.args.facility) tt (Ok tt) c.in_err-may_claim.field-0.0 c.from_residual.result c.in_err-may_claim.ensures c.from_residual.ensures.1 in
     let after = exit.1 (claimed b c.args.facility) b in
     record { answer = exit.0; after = after; recorded = λ j h. noted j _ c.args.self.now _ h (exit.0, after) }
 
 pub returns : goal.returns
 returns c =
     let b = c.args.self.now.book in
-    let answer = accepted_exit (claim_rows b c.args.facility) tt c.in-ok-may-claim.field-0 c.in-ok-may-claim.ensures in
+    let answer = accepted_exit (claim_rows b c.args.facility) tt c.in_ok-may_claim.field-0 c.in_ok-may_claim.ensures in
     let after = ap (with_month b) c.put_claim.ensures in
     record { answer = answer; after = after; recorded = λ j h. noted j _ c.args.self.now _ h (answer, after) }

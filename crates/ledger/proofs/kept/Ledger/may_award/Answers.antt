@@ -7,11 +7,11 @@ use Rattle.ledger.specs.Awarding.{over_firm, right_award}
 use Rattle.ledger.proofs.JudgedRows.{refused_early}
 use Rattle.ledger.proofs.kept.Ledger.may_award.Goals as goal
 
-pub returns-in-err-turn : goal.returns-in-err-turn
-returns-in-err-turn c =
+pub returns-in_err-turn : goal.returns-in_err-turn
+returns-in_err-turn c =
     let b = c.args.self.now.book in
     let f = c.args.facility in
     let kw = c.args.kw in
     refused_early (course call.Award b.stage)
     ((not (given_out f b.register.count), refusal.NoFacility) ∷ (leb 32 b.trade.count, refusal.NoRoom) ∷ (not (right_award kw c.args.price), refusal.OutOfLimits) ∷ (over_firm b f kw, refusal.OverFirm) ∷ [])
-    (moved call.Award b.stage) (b.trade.count + 1) c.in-err-turn.field-0.0 c.from-residual.result c.in-err-turn.ensures c.from-residual.ensures.1
+    (moved call.Award b.stage) (b.trade.count + 1) c.in_err-turn.field-0.0 c.from_residual.result c.in_err-turn.ensures c.from_residual.ensures.1

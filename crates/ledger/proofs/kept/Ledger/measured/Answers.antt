@@ -11,14 +11,14 @@ use Rattle.ledger.proofs.kept.Ledger.measured.Given.{Over}
 use Rattle.ledger.proofs.kept.Ledger.measured.Goals as goal
 use Rattle.ledger.proofs.kept.Ledger.measured.Goals.{After-measure}
 
-pub returns-in-err-may-report : goal.returns-in-err-may-report
-returns-in-err-may-report g c =
+pub returns-in_err-may_report : goal.returns-in_err-may_report
+returns-in_err-may_report g c =
     let b = c.args.self.now.book in
     let report = c.args.report.now in
     let answer = metered (measured_for g.K.Kind.shortest g.K.Kind.longest g.K.Kind.credit b c.args.facility report.hours.now report.test) in
     let table : ℕ → Rows = λ letter. letter_rows c.args.call b c.args.facility letter in
-    let exit = refused_exit {S = ℕ} (table c.kind-letter.result) tt answer c.in-err-may-report.field-0.0 c.from-residual.result c.in-err-may-report.ensures c.from-residual.ensures.1 in
-    exit.0 ∙ ap (λ letter. ruled (table letter) answer) c.kind-letter.ensures
+    let exit = refused_exit {S = ℕ} (table c.kind_letter.result) tt answer c.in_err-may_report.field-0.0 c.from_residual.result c.in_err-may_report.ensures c.from_residual.ensures.1 in
+    exit.0 ∙ ap (λ letter. ruled (table letter) answer) c.kind_letter.ensures
 
 -- where the letter is right, the answer is what measuring answers
 answered : (g : Over) (c : After-measure g) → let b = c.args.self.now.book in let report = c.args.report.now in metered c.measure.result ≡ ruled (letter_rows c.args.call b c.args.facility g.K.Kind.letter) (metered (measured_for g.K.Kind.shortest g.K.Kind.longest g.K.Kind.credit b c.args.facility report.hours.now report.test))
@@ -31,13 +31,13 @@ answered g c =
     let answer = metered (for (month_of b.stage) (held_in_all b.trade (c.args.facility - 1))) in
     let table : ℕ → Rows = λ letter. letter_rows c.args.call b c.args.facility letter in
     ap metered measured
-    ∙ sym (passed_by (table c.kind-letter.result) tt c.in-ok-may-report.field-0 answer (sym c.in-ok-may-report.ensures))
-    ∙ ap (λ letter. ruled (table letter) answer) c.kind-letter.ensures
+    ∙ sym (passed_by (table c.kind_letter.result) tt c.in_ok-may_report.field-0 answer (sym c.in_ok-may_report.ensures))
+    ∙ ap (λ letter. ruled (table letter) answer) c.kind_letter.ensures
 
-pub returns-in-err-measure : goal.returns-in-err-measure
-returns-in-err-measure g c =
-    let fault = err_from_is_err_and c.from-residual-in-err-measure.result c.from-residual-in-err-measure.ensures.1 in
-    fault.1 ∙ ap (λ y. Err y) fault.2 ∙ sym (ap metered c.in-err-measure.was) ∙ answered g (goal.at.returns-in-err-measure g c).After-measure
+pub returns-in_err-measure : goal.returns-in_err-measure
+returns-in_err-measure g c =
+    let fault = err_from_is_err_and c.from_residual-in_err-measure.result c.from_residual-in_err-measure.ensures.1 in
+    fault.1 ∙ ap (λ y. Err y) fault.2 ∙ sym (ap metered c.in_err-measure.was) ∙ answered g (goal.at.returns-in_err-measure g c).After-measure
 
 pub returns : goal.returns
-returns g c = sym (ap metered c.in-ok-measure.was) ∙ answered g (goal.at.returns g c).After-measure
+returns g c = sym (ap metered c.in_ok-measure.was) ∙ answered g (goal.at.returns g c).After-measure

@@ -4,8 +4,8 @@ use Rattle.ledger.proofs.Keeping.{Kept}
 use Rattle.ledger.proofs.Blank.{blank_kept}
 use Rattle.ledger.proofs.kept.Ledger.new.Goals as goal
 
-pub invariant-of-result : goal.invariant-of-result
-invariant-of-result c = subst Kept (sym c.blank-book.ensures.book) (blank_kept c.blank-book.result.calendar)
+pub invariant_of-result : goal.invariant_of-result
+invariant_of-result c = subst Kept (sym c.blank_book.ensures.book) (blank_kept c.blank_book.result.calendar)
 
 pub returns : goal.returns
-returns c = record { book = c.blank-book.ensures.book; calendar = c.blank-book.ensures.calendar; recorded = made _ c.blank-book.ensures.book c.blank-book.ensures.calendar }
+returns c = record { book = c.blank_book.ensures.book; calendar = c.blank_book.ensures.calendar; recorded = made _ c.blank_book.ensures.book c.blank_book.ensures.calendar }

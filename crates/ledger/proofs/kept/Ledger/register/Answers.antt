@@ -5,23 +5,23 @@ use Rattle.ledger.proofs.JudgedRows.{refused_exit, accepted_exit}
 use Rattle.ledger.proofs.After.{registered_kept}
 use Rattle.ledger.proofs.kept.Ledger.register.Goals as goal
 
-pub returns-in-err-number : goal.returns-in-err-number
-returns-in-err-number c =
+pub returns-in_err-number : goal.returns-in_err-number
+returns-in_err-number c =
     let b = c.args.self.now.book in
     let n = b.register.count + 1 in
-    let exit = refused_exit (register_rows b c.args.letter c.args.modules c.args.count c.args.access) n (Ok n) c.in-err-number.field-0.0 c.from-residual.result c.in-err-number.ensures c.from-residual.ensures.1 in
+    let exit = refused_exit (register_rows b c.args.letter c.args.modules c.args.count c.args.access) n (Ok n) c.in_err-number.field-0.0 c.from_residual.result c.in_err-number.ensures c.from_residual.ensures.1 in
     let after = exit.1 (registered b c.args.letter (firm_power c.args.modules c.args.count c.args.access)) b in
     record { answer = exit.0; after = after; recorded = λ j h. noted j _ c.args.self.now _ h (exit.0, after) }
 
 pub returns : goal.returns
 returns c =
     let b = c.args.self.now.book in
-    let answer = accepted_exit (register_rows b c.args.letter c.args.modules c.args.count c.args.access) (b.register.count + 1) c.in-ok-number.number c.in-ok-number.ensures in
-    let after = ap (registered b c.args.letter) c.firm-power-firm.ensures.value in
+    let answer = accepted_exit (register_rows b c.args.letter c.args.modules c.args.count c.args.access) (b.register.count + 1) c.in_ok-number.number c.in_ok-number.ensures in
+    let after = ap (registered b c.args.letter) c.firm_power-firm.ensures.value in
     record { answer = answer; after = after; recorded = λ j h. noted j _ c.args.self.now _ h (answer, after) }
 
-pub invariant-of-self : goal.invariant-of-self
-invariant-of-self c =
-    let was = c.in-ok-number.ensures in
+pub invariant_of-self : goal.invariant_of-self
+invariant_of-self c =
+    let was = c.in_ok-number.ensures in
     let room : c.args.self.now.book.register.count < 64 = search rules in
-    registered_kept c.args.self.now c.args.letter c.firm-power-firm.result room c.firm-power-firm.ensures.bound
+    registered_kept c.args.self.now c.args.letter c.firm_power-firm.result room c.firm_power-firm.ensures.bound
