@@ -13,7 +13,7 @@ use Rattle.ledger.specs.declared.state.Book.{Book}
 use Rattle.ledger.specs.declared.state.Stage.{Stage}
 use Rattle.ledger.specs.declared.state.Stage.TheVariants.{Unopened, Month, Finished}
 use Rattle.ledger.specs.declared.state.Phase.TheVariants.{Trading, Metering, Claims}
-use Rattle.ledger.specs.Form.{award_at, holdings, held_under, held_in_all}
+use Rattle.ledger.specs.Form.{award_at, held_under, held_in_all}
 use Rattle.ledger.specs.Judged.{ruled}
 use Rattle.ledger.specs.Lines.{closed_months, line_rows, booked_line}
 use Rattle.ledger.specs.Readings.{holding_at}

@@ -1,5 +1,5 @@
 -- The worked run, recorded step by step by computing what each call answers and leaves. Assumes nothing.
-use Rattle.std.proofs.Common.{ℕ, ◌≤◌, true, [], ◌∷◌, set, Some, Ok, refl, ◌∙◌, arith, lit≤}
+use Rattle.std.proofs.Common.{ℕ, true, [], ◌∷◌, set, Some, Ok, refl, ◌∙◌, arith, lit≤}
 use Rattle.std.proofs.lemmas.List.{length-set}
 use Rattle.calendar.specs.declared.year.Calendar.{Calendar}
 use Rattle.calendar.specs.Months.{first_months}
