@@ -123,10 +123,10 @@ fn a_year_with_all_answers(rt: HostRuntime) -> Result<(), Fail> {
     let mut ledger = Ledger::new();
     keep_january(&rt, &mut ledger)?;
     for month in months() {
-        keep_unreported(&rt, &mut ledger, month).note(format_args!("month {}", month.number))?;
+        keep_unreported(&rt, &mut ledger, month)?;
     }
     add_up(&rt, &ledger)?;
-    end(&rt, &mut ledger).note("after the year")
+    end(&rt, &mut ledger)
 }
 
 /// Keeps a month in which nothing is earned, over buyers of no weight.
@@ -145,9 +145,9 @@ fn keep_idle<R: SharingRule>(rt: &impl Abort, ledger: &mut Ledger, rule: &R) -> 
 fn a_year_without_awards(rt: HostRuntime) -> Result<(), Fail> {
     let mut ledger = Ledger::new();
     accepted(&rt, 0, ledger.open(LEAP_YEAR, &FIRSTS, &LENGTHS), ())?;
-    for turn in 1..=6u32 {
-        keep_idle(&rt, &mut ledger, &Running).note(format_args!("turn {turn}"))?;
-        keep_idle(&rt, &mut ledger, &Remainder).note(format_args!("turn {turn}"))?;
+    for _turn in 1..=6u32 {
+        keep_idle(&rt, &mut ledger, &Running)?;
+        keep_idle(&rt, &mut ledger, &Remainder)?;
     }
     assert_eq!(rt; ledger.closed_months(), 12);
     barred(&rt, 4, ledger.cut_off(), 6)?;

@@ -35,7 +35,7 @@ fn by_sorting(heap: Global, total: u64, rows: &[Row]) -> Result<Vec<u64>, AllocE
             row: i,
         })?;
     }
-    claims.sort();
+    claims.sort()?;
     for claim in claims.iter() {
         if left > 0 {
             left -= 1;

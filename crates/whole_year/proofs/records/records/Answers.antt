@@ -20,5 +20,5 @@ pub returns : goal.returns
 returns g c =
     let first = c.args.hours.first in
     let items = vec_items c.resize.new.self in
-    let some = filled c.min.result (vec_len c.new-all.result) (vec_items c.new-all.result) items first c.new-all.ensures.items c.new-all.ensures.len c.in-ok-resize.ensures.items in
-    filled_up c.min.result (vec_len c.resize.new.self) c.args.first c.args.count items (vec_items c.resize-2.new.self) first c.args.hours.after c.min.ensures c.in-ok-resize.ensures.len some c.in-ok-resize-2.ensures.items
+    let some = filled c.min.result (vec_len c.new-all.result) (vec_items c.new-all.result) items first c.new-all.ensures.items c.new-all.ensures.len c.in_ok-resize.ensures.items in
+    filled_up c.min.result (vec_len c.resize.new.self) c.args.first c.args.count items (vec_items c.resize-2.new.self) first c.args.hours.after c.min.ensures c.in_ok-resize.ensures.len some c.in_ok-resize-2.ensures.items
