@@ -64,7 +64,11 @@ fn rows_within(rows: &[Row]) -> bool
 }
 
 /// Shares the total over the rows by the rule, and answers it.
-fn share<R: SharingRule>(rule: &R, total: u64, rows: &mut [Row]) -> Result<u64, LedgerFault>
+pub(crate) fn share<R: SharingRule>(
+    rule: &R,
+    total: u64,
+    rows: &mut [Row],
+) -> Result<u64, LedgerFault>
     requires { Shareable total (mwhs rows.old) }
     ensures answer { result ≡ shared total (R.weights rule.now total (mwhs rows.old)) }
     ensures rows { rows.new ≡ kept_or result (charged rows.old (R.charges rule.now total (mwhs rows.old))) rows.old }
