@@ -60,7 +60,7 @@ fn numbers_of_16_bits_never_wrap(rt: HostRuntime) -> Result<(), Fail> {
     filled(&rt, 8_760, &[0, 65_535], &[500, 2], 4, 2)
 }
 
-/// Whether counting a month's stress hours, walking them and asking of each hour come to the same.
+/// Counting a month's stress hours, walking them and asking of each hour come to the same.
 fn readings_agree(rt: &impl Abort, calendar: &Calendar, month: u32) {
     let mut walked: u32 = 0;
     for hour in calendar.stress_hours(month) {

@@ -3,7 +3,7 @@ ghost use Rattle.std.specs.Prelude.{◌≡◌, length};
 ghost use Rattle.std.specs.List.{flat_map};
 ghost use Rattle.calendar.specs.Runs.{part};
 ghost use Rattle.calendar.specs.Stress.{stress_hours};
-ghost use Rattle.calendar.specs.Walk.{remaining, Steps, StepsInRun};
+ghost use Rattle.calendar.specs.Walk.{hours_to_come, Steps, StepsInRun};
 ghost use Rattle.std.specs.Iterator.{at_most};
 
 use super::Calendar;
@@ -25,7 +25,7 @@ pub struct StressHours<'a> {
 impl Calendar {
     /// The stress hours of a month, in ascending order.
     pub fn stress_hours(&self, month: u32) -> StressHours<'_>
-        ensures { remaining result ≡ stress_hours self.now month }
+        ensures { hours_to_come result ≡ stress_hours self.now month }
     {
         StressHours::new(
             self.month_begins(month),
@@ -38,7 +38,7 @@ impl Calendar {
 impl<'a> StressHours<'a> {
     /// A walk that stands before the first of these runs, and gives their parts of a month.
     fn new(begins: u32, ends: u32, runs: &'a [Run]) -> StressHours<'a>
-        ensures { remaining result ≡ flat_map (part begins ends) runs.now }
+        ensures { hours_to_come result ≡ flat_map (part begins ends) runs.now }
     {
         StressHours {
             hour: 0,
@@ -67,7 +67,7 @@ impl Iterator for StressHours<'_> {
 
     ghost next_gives = { Steps };
 
-    ghost remaining = { λ w. at_most (length (remaining w)) };
+    ghost remaining = { λ w. at_most (length (hours_to_come w)) };
 
     fn next(&mut self) -> Option<u32> {
         loop {

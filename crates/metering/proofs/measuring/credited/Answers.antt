@@ -2,7 +2,7 @@ use Rattle.std.proofs.Common.{◌≡◌, ℕ, ◌+◌, ◌*◌, ◌<◌, ◌≤�
 use Rattle.std.specs.Iterator.Adapters.{enumerate_source, enumerate_count}
 use Rattle.std.proofs.lemmas.List.{length-drop}
 use Rattle.calendar.specs.Stress.{stress_hours}
-use Rattle.calendar.specs.Walk.{remaining}
+use Rattle.calendar.specs.Walk.{hours_to_come}
 use Rattle.calendar.proofs.Stress.{stress_hours_few}
 use Rattle.metering.specs.Testing.{failed_in}
 use Rattle.metering.proofs.Credits.{walked, so_far, more_passed, more_failed, so_far_all}
@@ -18,10 +18,10 @@ abbrev sum_of : (g : Over) → In-Some g → ℕ → ℕ
 sum_of g c = so_far g.K.Kind.credit c.args.commitment (failed_in c.args.test.now) (hours g c) c.args.records.now
 
 -- the hour that the walk comes to is that of record i
-at_hour : (g : Over) (c : In-Some g) → (c.in-Some.i < length (hours g c)) × (c.in-Some.hour ≡ get_or (hours g c) c.in-Some.i 0) × (remaining (enumerate_source c.next.new.self) ≡ drop (c.in-Some.i + 1) (hours g c))
+at_hour : (g : Over) (c : In-Some g) → (c.in-Some.i < length (hours g c)) × (c.in-Some.hour ≡ get_or (hours g c) c.in-Some.i 0) × (hours_to_come (enumerate_source c.next.new.self) ≡ drop (c.in-Some.i + 1) (hours g c))
 at_hour g c =
     let steps = c.in-Some.ensures.steps in
-    walked (hours g c) c.in-Some.i c.in-Some.hour (remaining (enumerate_source c.next.new.self)) (ap (λ n. drop n (hours g c)) steps.1 ∙ sym c.loop-i.invariant.2 ∙ steps.0)
+    walked (hours g c) c.in-Some.i c.in-Some.hour (hours_to_come (enumerate_source c.next.new.self)) (ap (λ n. drop n (hours g c)) steps.1 ∙ sym c.loop-i.invariant.2 ∙ steps.0)
 
 -- what is known of the sum as the turn begins
 had : (g : Over) (c : In-Some g) → (c.loop-i.sum ≡ sum_of g c c.in-Some.i) × (c.loop-i.sum ≤ 4294967295 * c.in-Some.i)
@@ -30,7 +30,7 @@ had g c =
     (c.loop-i.invariant.3 ∙ ap (sum_of g c) (sym steps.1), omega (arith, c.loop-i.invariant.4, steps.1))
 
 -- the next turn, at the sum with one hour more
-next_turn : (g : Over) (c : In-Some g) (sum : ℕ) → sum ≡ sum_of g c (c.in-Some.i + 1) → sum ≤ 4294967295 * (c.in-Some.i + 1) → (enumerate_count c.next.new.self + length (remaining (enumerate_source c.next.new.self)) < 18446744073709551616) × (remaining (enumerate_source c.next.new.self) ≡ drop (enumerate_count c.next.new.self) (hours g c)) × (sum ≡ sum_of g c (enumerate_count c.next.new.self)) × (sum ≤ 4294967295 * enumerate_count c.next.new.self)
+next_turn : (g : Over) (c : In-Some g) (sum : ℕ) → sum ≡ sum_of g c (c.in-Some.i + 1) → sum ≤ 4294967295 * (c.in-Some.i + 1) → (enumerate_count c.next.new.self + length (hours_to_come (enumerate_source c.next.new.self)) < 18446744073709551616) × (hours_to_come (enumerate_source c.next.new.self) ≡ drop (enumerate_count c.next.new.self) (hours g c)) × (sum ≡ sum_of g c (enumerate_count c.next.new.self)) × (sum ≤ 4294967295 * enumerate_count c.next.new.self)
 next_turn g c sum is bound =
     let steps = c.in-Some.ensures.steps in
     let turned : c.in-Some.i + 1 ≡ enumerate_count c.next.new.self = omega (arith, steps.1, steps.2) in

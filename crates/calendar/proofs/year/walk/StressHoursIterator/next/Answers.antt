@@ -2,7 +2,7 @@ use Rattle.std.proofs.Common.{◌≡◌, ℕ, List, [], ◌++◌, length, sym, a
 use Rattle.std.specs.List.{flat_map}
 use Rattle.std.proofs.lemmas.List.{nil_from_length}
 use Rattle.calendar.specs.Runs.{span, part}
-use Rattle.calendar.specs.Walk.{remaining}
+use Rattle.calendar.specs.Walk.{hours_to_come}
 use Rattle.calendar.proofs.Walk.{step_in_run, run_over}
 use Rattle.calendar.proofs.year.walk.StressHoursIterator.next.Goals as goal
 use Rattle.std.proofs.iter.Next.{firm}
@@ -16,9 +16,9 @@ pub returns-in_default-split_first : goal.returns-in_default-split_first
 returns-in_default-split_first c =
     let w = c.next_in_run.new.self in
     let month = part w.begins w.ends in
-    let none : remaining c.loop-hour.self ≡ [] =
+    let none : hours_to_come c.loop-hour.self ≡ [] =
     run_over c.loop-hour.self w c.in_default.ensures ∙ ap (flat_map month) (nil_from_length w.runs.now c.in_default-split_first.ensures.cases) in
-    record { steps = (sym c.loop-hour.invariant ∙ none, ap remaining c.in_default.ensures.1 ∙ none); goes = firm (tt) (λ h. search rules) }
+    record { steps = (sym c.loop-hour.invariant ∙ none, ap hours_to_come c.in_default.ensures.1 ∙ none); goes = firm (tt) (λ h. search rules) }
 
 pub loop-hour-preserved : goal.loop-hour-preserved
 loop-hour-preserved c =
