@@ -1,6 +1,48 @@
 //! Where the cents left over end, when they go to the largest remainders first.
-ghost use Rattle.std.specs.Prelude.{◌≡◌, ◌+◌, ◌-◌, ◌<◌, ◌≤◌, length, if◌then◌else◌, nat_eq, nat_le, nat_lt};
+ghost use Rattle.std.specs.Prelude.{◌≡◌, ◌-◌, if◌then◌else◌, nat_eq, nat_le};
 ghost use Rattle.sharing.specs.Cut.{count_above, Least, cent_at};
+
+/// The cents left over, and the remainders of the rows that they go to, none of which is above `most`.
+#[derive(Clone, Copy)]
+pub(crate) struct LeftOver<'a> {
+    pub(crate) cents: u64,
+    pub(crate) rems: &'a [u32],
+    pub(crate) most: u32,
+    ghost top: { count_above rems.now most ≡ 0 },
+}
+
+impl LeftOver<'_> {
+    /// The least number that no more remainders are above than cents are left: each turn halves what it may be.
+    fn least(&self) -> u32
+        ensures { Least self.now.rems.now self.now.cents result }
+    {
+        let mut low = 0;
+        let mut high = self.most;
+        while low < high {
+            let mid = low + (high - low) / 2;
+            if self.is_enough(mid) {
+                high = mid;
+            } else {
+                low = mid + 1;
+            }
+        }
+        low
+    }
+
+    /// Whether there is a cent for each remainder above `at`.
+    fn is_enough(&self, at: u32) -> bool
+        ensures { result ≡ nat_le (count_above self.now.rems.now at) self.now.cents }
+    {
+        self.count_above(at) <= self.cents
+    }
+
+    /// How many remainders are above `at`.
+    fn count_above(&self, at: u32) -> u64
+        ensures { result ≡ count_above self.now.rems.now at }
+    {
+        self.rems.iter().filter(|rem| **rem > at).count() as u64
+    }
+}
 
 /// A remainder such that each row above it has a cent of those left over, and of the rows at it the next `ties`.
 #[derive(Clone, Copy)]
@@ -10,15 +52,13 @@ pub struct Cut {
 }
 
 impl Cut {
-    /// The cut for so many cents left over, among remainders none of which is above `most`.
-    pub(crate) fn find(left: u64, most: u32, rems: &[u32]) -> Cut
-        requires few { length rems.now ≤ 1_024 }
-        requires top { count_above rems.now most ≡ 0 }
-        ensures at { Least rems.now left result.at }
-        ensures ties { result.ties ≡ left - count_above rems.now result.at }
+    /// The cut for the cents left over.
+    pub(crate) fn find(left: &LeftOver) -> Cut
+        ensures at { Least left.now.rems.now left.now.cents result.at }
+        ensures ties { result.ties ≡ left.now.cents - count_above left.now.rems.now result.at }
     {
-        let at = least(left, most, rems);
-        let ties = left - count_above(at, rems) as u64;
+        let at = left.least();
+        let ties = left.cents - left.count_above(at);
         Cut { at, ties }
     }
 
@@ -35,51 +75,4 @@ impl Cut {
         self.ties = self.ties.saturating_sub(1);
         u64::from(tied)
     }
-}
-
-/// The least number that no more remainders are above than cents are left: each turn halves what it may be.
-fn least(left: u64, most: u32, rems: &[u32]) -> u32
-    requires few { length rems.now ≤ 1_024 }
-    requires top { count_above rems.now most ≡ 0 }
-    ensures { Least rems.now left result }
-{
-    let mut low = 0;
-    let mut high = most;
-    while low < high {
-        let mid = low + (high - low) / 2;
-        if is_enough(left, mid, rems) {
-            high = mid;
-        } else {
-            low = mid + 1;
-        }
-    }
-    low
-}
-
-/// Whether there is a cent for each remainder above `at`.
-fn is_enough(left: u64, at: u32, rems: &[u32]) -> bool
-    requires { length rems.now ≤ 1_024 }
-    ensures { result ≡ nat_le (count_above rems.now at) left }
-{
-    count_above(at, rems) as u64 <= left
-}
-
-/// How many remainders are above `at`.
-fn count_above(at: u32, rems: &[u32]) -> u32
-    requires { length rems.now ≤ 1_024 }
-    ensures { result ≡ count_above rems.now at }
-{
-    let mut count = 0;
-    for rem in rems {
-        count = with_rem(count, at, *rem);
-    }
-    count
-}
-
-/// The count so far, with one remainder more.
-fn with_rem(count: u32, at: u32, rem: u32) -> u32
-    requires { count < 1_024 }
-    ensures { result ≡ count + (if nat_lt at rem then 1 else 0) }
-{
-    if rem > at { count + 1 } else { count }
 }

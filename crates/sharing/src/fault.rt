@@ -2,11 +2,14 @@
 ghost use Rattle.std.specs.Prelude.{◌≡◌};
 ghost use Rattle.sharing.specs.Fault.{number, place};
 
+use std::error::Error;
+use std::fmt;
+
 /// A refusal of a sharing rule.
 #[derive(Clone, Copy, PartialEq, Eq, Debug)]
 pub enum SharingFault {
     /// There is a total to share, and the weights add up to nothing.
-    NoWeight,
+    NoWeight = 23,
 }
 
 impl SharingFault {
@@ -14,9 +17,7 @@ impl SharingFault {
     pub fn number(self) -> u32
         ensures { result ≡ number self }
     {
-        match self {
-            SharingFault::NoWeight => 23,
-        }
+        self as u32
     }
 
     /// The refusal's place, counted from 1; 0 where it has none.
@@ -28,3 +29,19 @@ impl SharingFault {
         }
     }
 }
+
+/// Writes the refusal's number, its layer and its place.
+impl fmt::Display for SharingFault {
+    ghost use Rattle.std.specs.Prelude.{Some};
+    ghost use Rattle.sharing.specs.Fault.{text};
+
+    ghost output = { λ fault. Some (text fault) };
+
+    fn fmt<W: fmt::Write>(&self, f: &mut fmt::Formatter<W>) -> fmt::Result {
+        let number = self.number();
+        let place = self.place();
+        write!(f, "{number}, layer sharing, place {place}")
+    }
+}
+
+impl Error for SharingFault {}

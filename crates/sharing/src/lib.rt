@@ -9,6 +9,7 @@ mod rows;
 mod rule;
 mod running;
 mod split;
+mod weighed;
 
 pub use fault::SharingFault;
 pub use remainder::Remainder;

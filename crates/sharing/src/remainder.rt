@@ -1,6 +1,6 @@
 //! The rule of the largest remainder: each row pays the whole cents of its share, and the cents left over go one each to
 //! the rows that the division left most of, among equals to the earlier row.
-ghost use Rattle.std.specs.Prelude.{◌≡◌, ◌+◌, ◌-◌, ◌*◌, ◌^◌, ◌<◌, ◌≤◌, true, length, is_ok, sum};
+ghost use Rattle.std.specs.Prelude.{◌≡◌, ◌+◌, ◌-◌, ◌*◌, ◌^◌, ◌<◌, ◌≤◌, true, [], length, is_ok, sum};
 ghost use Rattle.sharing.specs.Rows.{mwhs, charges_in, with_charge, charged};
 ghost use Rattle.sharing.specs.Rule.{Shareable, Shares};
 ghost use Rattle.sharing.specs.Split.{cents_of};
@@ -8,9 +8,10 @@ ghost use Rattle.sharing.specs.Remainder.{whole_cents, remainder_of, remainders,
 ghost use Rattle.sharing.specs.Cut.{count_above};
 ghost use Rattle.sharing.specs.RemainderLaws.{remainder_lawful};
 
-use crate::cut::Cut;
-use crate::rule::weigh;
+use crate::cut::{Cut, LeftOver};
+use crate::weighed::Weighed;
 use crate::{Row, SharingFault, SharingRule};
+use arrayvec::ArrayVec;
 
 /// The most rows that a total is shared over.
 const MOST_ROWS: usize = 1_024;
@@ -35,68 +36,60 @@ impl SharingRule for Remainder {
             rows.old result rows.new }
         ensures fair { is_ok result ≡ true → Fair total (mwhs rows.old) (charges_in rows.new) }
     {
-        let whole = weigh(total, rows)?;
-        let mut room = [0; MOST_ROWS];
-        let rems = &mut room[0..rows.len()];
-        let left = divide_all(total, whole, rows, rems);
-        hand_out(left, whole as u32, rems, rows);
+        let weighed = Weighed::over(total, rows)?;
+        let mut rems = ArrayVec::new();
+        let cents = divide_all(weighed, rows, &mut rems);
+        let most = weighed.whole as u32;
+        let rems = rems.as_slice();
+        hand_out(&LeftOver { cents, rems, most }, rows);
         Ok(())
     }
 }
 
 /// Charges each row with the whole cents of its share, and notes what each division leaves; gives the cents left over.
-fn divide_all(total: u64, whole: u64, rows: &mut [Row], rems: &mut [u32]) -> u64
-    requires able { Shareable total (mwhs rows.old) }
-    requires weighed { (whole ≡ sum (mwhs rows.old)) × (whole ≡ 0 → total ≡ 0) }
-    requires room { length rems.old ≡ length rows.old }
-    ensures charges { rows.new ≡ charged rows.old (whole_cents total whole (mwhs rows.old)) }
-    ensures rests { rems.new ≡ remainders total whole (mwhs rows.old) }
-    ensures left { result ≡ left_over total whole (mwhs rows.old) }
+fn divide_all(weighed: Weighed, rows: &mut [Row], rems: &mut ArrayVec<u32, MOST_ROWS>) -> u64
+    requires few { length rows.old ≤ 1_024 }
+    requires weighed { weighed.whole ≡ sum (mwhs rows.old) }
+    requires none { rems.old.items ≡ [] }
+    ensures charges { rows.new ≡ charged rows.old (whole_cents weighed.total weighed.whole (mwhs rows.old)) }
+    ensures rests { rems.new.items ≡ remainders weighed.total weighed.whole (mwhs rows.old) }
+    ensures left { result ≡ left_over weighed.total weighed.whole (mwhs rows.old) }
 {
-    let mut left = total;
-    for i in 0..rows.len() {
-        rems[i] = divide(total, whole, &mut rows[i]);
-        left = left_after(left, &rows[i]);
+    let mut left = weighed.total;
+    for row in rows.iter_mut() {
+        rems.push(weighed.divide(row));
+        left = left.saturating_sub(row.charge);
     }
     left
 }
 
-/// Charges the row with the whole cents of its share, and gives what the division leaves.
-fn divide(total: u64, whole: u64, row: &mut Row) -> u32
-    requires fits { total * row.old.mwh < 2 ^ 64 }
-    requires small { whole < 2 ^ 32 }
-    requires some { whole ≡ 0 → total ≡ 0 }
-    ensures charges { row.new ≡ with_charge row.old (cents_of total whole row.old.mwh) }
-    ensures rest { result ≡ remainder_of total whole row.old.mwh }
-{
-    // Without MWh there is nothing to share.
-    if whole == 0 {
-        row.charge = 0;
-        return 0;
+impl Weighed {
+    /// Charges the row with the whole cents of its share, and gives what the division leaves.
+    fn divide(self, row: &mut Row) -> u32
+        requires { row.old.mwh ≤ self.whole }
+        ensures charges { row.new ≡ with_charge row.old (cents_of self.total self.whole row.old.mwh) }
+        ensures rest { result ≡ remainder_of self.total self.whole row.old.mwh }
+    {
+        // Without MWh there is nothing to share.
+        if self.whole == 0 {
+            row.charge = 0;
+            return 0;
+        }
+        let product = self.total * u64::from(row.mwh);
+        row.charge = product / self.whole;
+        (product % self.whole) as u32
     }
-    let product = total * row.mwh as u64;
-    row.charge = product / whole;
-    (product % whole) as u32
 }
 
-/// The cents left over once the row has paid its charge.
-fn left_after(left: u64, row: &Row) -> u64
-    ensures { result ≡ left - row.now.charge }
-{
-    left.saturating_sub(row.charge)
-}
-
-/// Charges one cent more to each of the `left` rows that come first by their remainders, none of which is above `most`.
-fn hand_out(left: u64, most: u32, rems: &[u32], rows: &mut [Row])
-    requires few { length rows.old ≤ 1_024 }
-    requires each { length rems.now ≡ length rows.old }
-    requires top { count_above rems.now most ≡ 0 }
+/// Charges one cent more to each of the rows that come first by their remainders, as many as cents are left over.
+fn hand_out(left: &LeftOver, rows: &mut [Row])
+    requires each { length left.now.rems.now ≡ length rows.old }
     requires fits { sum (charges_in rows.old) < 2 ^ 63 }
-    ensures { rows.new ≡ charged rows.old (with_more (charges_in rows.old) rems.now left) }
+    ensures { rows.new ≡ charged rows.old (with_more (charges_in rows.old) left.now.rems.now left.now.cents) }
 {
-    let mut cut = Cut::find(left, most, rems);
-    for i in 0..rows.len() {
-        charge_more(&mut rows[i], cut.next(rems[i]));
+    let mut cut = Cut::find(left);
+    for (i, rem) in left.rems.iter().enumerate() {
+        charge_more(&mut rows[i], cut.next(*rem));
     }
 }
 

@@ -1,10 +1,9 @@
 //! What a sharing rule means, and what every rule keeps.
-ghost use Rattle.std.specs.Prelude.{◌≡◌, ℕ, ◌<◌, List, sum, MatchResult};
+ghost use Rattle.std.specs.Prelude.{ℕ, List};
 ghost use Rattle.sharing.specs.Rows.{mwhs};
 ghost use Rattle.sharing.specs.Rule.{Shareable, Lawful, Shares};
-ghost use Rattle.sharing.specs.declared.fault.SharingFault.TheVariants.{NoWeight};
 
-use crate::{Row, SharingFault, total_mwh};
+use crate::{Row, SharingFault};
 
 /// A way to share a month's total. It means two lists made from the total and the rows' MWh: a weight for each row,
 /// and a charge for each row.
@@ -23,18 +22,4 @@ pub trait SharingRule {
 
     /// What each rule has to show: its charges add up to the total, each less than a cent from the exact share.
     ghost lawful: { (rule : Self) (total : ℕ) (ms : List ℕ) → Shareable total ms → Lawful total ms (weights rule total ms) (charges rule total ms) };
-}
-
-/// The MWh that the rows weigh together; refused where there is a total and no MWh.
-pub(crate) fn weigh(total: u64, rows: &[Row]) -> Result<u64, SharingFault>
-    requires { Shareable total (mwhs rows.now) }
-    ensures { MatchResult result
-        (λ whole. (whole ≡ sum (mwhs rows.now)) × (whole ≡ 0 → total ≡ 0))
-        (λ fault. (sum (mwhs rows.now) ≡ 0) × (0 < total) × (fault ≡ NoWeight)) }
-{
-    let whole = total_mwh(rows);
-    if whole == 0 && total > 0 {
-        return Err(SharingFault::NoWeight);
-    }
-    Ok(whole)
 }

@@ -1,13 +1,11 @@
 //! The running rule: rows 1 to i together pay the whole cents of their share.
-ghost use Rattle.std.specs.Prelude.{◌≡◌, ◌+◌, ◌-◌, ◌<◌, ◌≤◌, sum, MatchResult};
-ghost use Rattle.sharing.specs.Rows.{mwhs, with_charge};
-ghost use Rattle.sharing.specs.Rule.{Shareable};
+ghost use Rattle.std.specs.Prelude.{◌≡◌, ◌+◌, ◌-◌, ◌≤◌};
+ghost use Rattle.sharing.specs.Rows.{with_charge};
 ghost use Rattle.sharing.specs.Split.{cents_of};
 ghost use Rattle.sharing.specs.Running.{running_weights, running_charges};
-ghost use Rattle.sharing.specs.declared.fault.SharingFault.TheVariants.{NoWeight};
 ghost use Rattle.sharing.specs.RunningLaws.{running_lawful};
 
-use crate::rule::weigh;
+use crate::weighed::Weighed;
 use crate::{Row, RunningSplit, SharingFault, SharingRule};
 
 /// Shares by the MWh, each row paying what rows 1 to itself owe less what the rows before it pay.
@@ -22,24 +20,13 @@ impl SharingRule for Running {
     ghost lawful = { λ rule. running_lawful };
 
     fn share(&self, total: u64, rows: &mut [Row]) -> Result<(), SharingFault> {
-        let mut split = split_by_mwh(total, rows)?;
+        let weighed = Weighed::over(total, rows)?;
+        let mut split = weighed.split();
         for row in rows.iter_mut() {
             charge_next(&mut split, row);
         }
         Ok(())
     }
-}
-
-/// The split of the total over the rows' MWh, which has handed out nothing yet; refused where there is a total and no
-/// MWh.
-fn split_by_mwh(total: u64, rows: &[Row]) -> Result<RunningSplit, SharingFault>
-    requires { Shareable total (mwhs rows.now) }
-    ensures { MatchResult result
-        (λ split. (sum (mwhs rows.now) ≡ 0 → total ≡ 0) × (split.total ≡ total) × (split.whole ≡ sum (mwhs rows.now)) × (split.before ≡ 0))
-        (λ fault. (sum (mwhs rows.now) ≡ 0) × (0 < total) × (fault ≡ NoWeight)) }
-{
-    let whole = weigh(total, rows)?;
-    Ok(RunningSplit::new(total, whole).unwrap())
 }
 
 /// Charges the row with what the split hands out for its MWh.

@@ -18,7 +18,7 @@ charge_more-requires c =
     let rows = c.args.rows.now in
     let i = c.loop-i.i in
     let inside : i < length (charges_in rows) = omega (arith, length-charges_in rows) in
-    let charge = charge_now rows c.loop-i.rows (with_more (charges_in rows) c.args.rems.now c.args.left) i c.loop-i.invariant.0 c.loop-i-test.true in
+    let charge = charge_now rows c.loop-i.rows (with_more (charges_in rows) c.args.left.now.rems.now c.args.left.now.cents) i c.loop-i.invariant.0 (omega (arith, c.requires.each)) in
     let is = c.next.ensures.cent in
     let one : c.next.result ≤ 1 = grind (arith, nat_tests) in
     omega (arith, charge, get_or-le-sum_by (λ x. x) (charges_in rows) i 0 inside, c.requires.fits)
@@ -26,28 +26,28 @@ charge_more-requires c =
 pub loop-i-preserved : goal.loop-i-preserved
 loop-i-preserved c =
     let rows = c.args.rows.now in
-    let rems = c.args.rems.now in
-    let left = c.args.left in
+    let rems = c.args.left.now.rems.now in
+    let left = c.args.left.now.cents in
     let cs = with_more (charges_in rows) rems left in
     let i = c.loop-i.i in
     let rem : ℕ = get_or rems i 0 in
     let at = c.find-cut.result.at in
     let cut = c.loop-i.cut in
     let so_far = c.loop-i.invariant in
-    let in-rems : i < length rems = omega (arith, c.requires.each) in
-    let charge = charge_now rows c.loop-i.rows cs i so_far.0 c.loop-i-test.true in
+    let in-rows : i < length rows = omega (arith, c.requires.each) in
+    let charge = charge_now rows c.loop-i.rows cs i so_far.0 in-rows in
     let ties : cut.ties ≡ left - count_above rems at - count_at rems at i = so_far.2 ∙ ap (λ n. n - count_at rems at i) c.find-cut.ensures.ties in
-    let cent : c.next.result ≡ one_more rems left i = c.next.ensures.cent ∙ ap (λ t. cent_at t cut.ties rem) so_far.1 ∙ ap (λ n. cent_at at n rem) ties ∙ cut_cent rems i in-rems left at c.find-cut.ensures.at in
+    let cent : c.next.result ≡ one_more rems left i = c.next.ensures.cent ∙ ap (λ t. cent_at t cut.ties rem) so_far.1 ∙ ap (λ n. cent_at at n rem) ties ∙ cut_cent rems i c.loop-i-test.true left at c.find-cut.ensures.at in
     let more = with_more_at (charges_in rows) rems left i (omega (arith, length-charges_in rows)) in
     let tied : ◌≡◌ {A = ℕ} (cond (eqb rem cut.at) 1 0) (cond (eqb rem at) 1 0) = ap (λ t. cond (eqb rem t) 1 0) so_far.1 in (
-      charged_more rows c.loop-i.rows cs i so_far.0 c.charge_more.new.row ((get_or c.loop-i.rows i no_row).charge + c.next.result) c.charge_more.ensures (omega arith) (length-with_more (charges_in rows) rems left ∙ length-charges_in rows) c.loop-i-test.true,
+      charged_more rows c.loop-i.rows cs i so_far.0 c.charge_more.new.row ((get_or c.loop-i.rows i no_row).charge + c.next.result) c.charge_more.ensures (omega arith) (length-with_more (charges_in rows) rems left ∙ length-charges_in rows) in-rows,
       c.next.ensures.same ∙ so_far.1,
-      omega (arith, so_far.2, c.next.ensures.ties, at_more rems at i in-rems),
+      omega (arith, so_far.2, c.next.ensures.ties, at_more rems at i c.loop-i-test.true),
     )
 
 pub returns : goal.returns
 returns c =
     let rows = c.args.rows.now in
-    let rems = c.args.rems.now in
-    let left = c.args.left in
-    charged_all rows c.loop-i.rows (with_more (charges_in rows) rems left) c.loop-i.i c.loop-i.invariant.0 (length-with_more (charges_in rows) rems left ∙ length-charges_in rows) c.loop-i-test.false
+    let rems = c.args.left.now.rems.now in
+    let left = c.args.left.now.cents in
+    charged_all rows c.loop-i.rows (with_more (charges_in rows) rems left) c.loop-i.i c.loop-i.invariant.0 (length-with_more (charges_in rows) rems left ∙ length-charges_in rows) (omega (arith, c.requires.each))

@@ -6,6 +6,6 @@ use Rattle.sharing.proofs.remainder.hand_out.Given as goal
 
 abbrev pub invariant-loop-i : goal.invariant-loop-i
 invariant-loop-i l =
-    (l.rows ≡ charged l.initial.rows (take l.i (with_more (charges_in l.initial.rows) l.rems l.left)))
+    (l.rows ≡ charged l.initial.rows (take l.i (with_more (charges_in l.initial.rows) l.left.rems.now l.left.cents)))
     × (l.cut.at ≡ l.initial.cut.at)
-    × (l.cut.ties ≡ l.initial.cut.ties - count_at l.rems l.initial.cut.at l.i)
+    × (l.cut.ties ≡ l.initial.cut.ties - count_at l.left.rems.now l.initial.cut.at l.i)

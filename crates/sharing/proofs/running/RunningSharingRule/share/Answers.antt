@@ -7,8 +7,9 @@ use Rattle.sharing.proofs.running.RunningSharingRule.share.Goals as goal
 
 pub loop-row-init : goal.loop-row-init
 loop-row-init c =
-    let begun = c.in_ok-split.ensures in
-    (sym (charged_none c.args.rows.now), begun.1, begun.2, begun.3)
+    let begun = c.split-split.ensures in
+    let weighed = c.in_ok-weighed.ensures in
+    (sym (charged_none c.args.rows.now), begun.0 ∙ weighed.0, begun.1 ∙ weighed.1, begun.2)
 
 pub charge_next-requires : goal.charge_next-requires
 charge_next-requires c =
@@ -44,4 +45,4 @@ returns c =
     let rows = c.args.rows.now in
     let ms = mwhs rows in
     let total = c.args.total in
-    (c.in_ok-split.ensures.0, charged_all rows c.loop-row.rows (split total (sum ms) ms) c.loop-row.row-index c.loop-row.invariant.0 (length-split total (sum ms) ms ∙ length-mwhs rows) c.loop-row-test.false)
+    ((λ z. sym c.in_ok-weighed.ensures.0 ∙ c.in_ok-weighed.weighed.some (c.in_ok-weighed.ensures.1 ∙ z)), charged_all rows c.loop-row.rows (split total (sum ms) ms) c.loop-row.row-index c.loop-row.invariant.0 (length-split total (sum ms) ms ∙ length-mwhs rows) c.loop-row-test.false)
