@@ -3,4 +3,3 @@ pub mod Spans
 pub mod Parts
 pub mod Months
 pub mod Stress
-pub mod Walk

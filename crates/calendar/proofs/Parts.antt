@@ -1,14 +1,13 @@
 -- What ascending runs cover of a span is their parts of it, one after another. Assumes nothing.
-use Rattle.std.proofs.Common.{◌≡◌, ℕ, zero, suc, ◌+◌, ◌-◌, ◌<◌, ◌≤◌, min, max, Bool, true, false, ◌||◌, ltb, leb, List, [], ◌∷◌, ◌++◌, length, drop, sum_by, filter, sym, refl, ap, ◌∙◌, ap₂, inl, inr, arith, length-append}
+use Rattle.std.proofs.Common.{◌≡◌, ℕ, zero, suc, ◌+◌, ◌-◌, ◌<◌, ◌≤◌, min, max, true, false, ltb, leb, List, [], ◌∷◌, ◌++◌, length, sum_by, filter, sym, refl, ap, ◌∙◌, ap₂, inl, inr, arith, length-append}
 use Rattle.std.specs.List.{range_with_len, flat_map}
-use Rattle.std.proofs.lemmas.List.{at_drop_more}
 use Rattle.std.proofs.lemmas.List.FromFn.{length-range_with_len}
 use Rattle.std.proofs.lemmas.List.Sums.{sum_by-cons}
 use Rattle.std.proofs.lemmas.Bool.{and_parts, ltb-true, leb-true, or_cases, both_ways, cond_both, cases_lt}
 use Rattle.std.proofs.lemmas.Bool.Decides.{nat_tests}
 use Rattle.calendar.specs.declared.run.Run.{Run}
-use Rattle.calendar.specs.Runs.{span, ends, covers, part}
-use Rattle.calendar.specs.Form.{no_run, run_at, Apart, Throughout, hours}
+use Rattle.calendar.specs.Runs.{span, ends, covers, part, part_hours}
+use Rattle.calendar.specs.Form.{run_at, Apart, Throughout, hours}
 use Rattle.calendar.specs.Stress.{some_covers}
 use Rattle.calendar.proofs.Keeping.{keeps_none, kept_either}
 use Rattle.calendar.proofs.Spans.{span_none, span_some}
@@ -72,10 +71,6 @@ covered_parts rs from to apart forward =
     λ k h. let before : suc k - 1 ≡ k = omega arith in rw before at (apart (suc k) h (omega arith)) in
     kept_parts rs 0 (to - from) from (from_apart rs 0 (λ h. omega arith) next) ∙ ap (λ (e : ℕ). flat_map (part from e) rs) whole
 
--- how many hours a run's part of a span has
-abbrev pub part_hours : ℕ → ℕ → Run → ℕ
-part_hours from to r = min to (ends r) - max from r.first
-
 module _ (from to : ℕ) where
   pub length-parts : (rs : List Run) → length (flat_map (part from to) rs) ≡ sum_by (part_hours from to) rs
   length-parts [] = refl
@@ -92,8 +87,3 @@ module _ (from to : ℕ) where
   pub parts_few : (rs : List Run) → sum_by (part_hours from to) rs ≤ hours rs
   parts_few [] = omega arith
   parts_few (r ∷ rs) = omega (arith, parts_few rs, sum_by-cons (part_hours from to) r rs, sum_by-cons (λ r. r.len) r rs)
-
--- whether the runs from i on cover an hour: the run at i does, or one of those behind it
-pub covers_next : (rs : List Run) (h i : ℕ) (b : Bool) → i < length rs → b ≡ covers (run_at rs i) h → (b || some_covers (drop (i + 1) rs) h) ≡ some_covers (drop i rs) h
-covers_next rs h i b in_List e =
-    ap (λ (t : Bool). t || some_covers (drop (i + 1) rs) h) e ∙ sym (at_drop_more (λ (l : List Run). some_covers l h) rs i no_run in_List)

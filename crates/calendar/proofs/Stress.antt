@@ -2,11 +2,11 @@
 use Rattle.std.proofs.Common.{◌≡◌, ℕ, ◌-◌, ◌<◌, ◌≤◌, true, length, sum_by, ap, ◌∙◌, arith}
 use Rattle.std.specs.List.{ContainsAt as Has, flat_map}
 use Rattle.calendar.specs.declared.year.Calendar.{Calendar}
-use Rattle.calendar.specs.Runs.{part}
+use Rattle.calendar.specs.Runs.{part, part_hours}
 use Rattle.calendar.specs.Months.{month_begins, month_ends}
 use Rattle.calendar.specs.Stress.{runs_of, is_stress, stress_hours}
 use Rattle.calendar.proofs.Keeping.{Ascending, kept_only, kept_every, kept_ascending}
-use Rattle.calendar.proofs.Parts.{covered_parts, part_hours, length-parts, parts_few}
+use Rattle.calendar.proofs.Parts.{covered_parts, length-parts, parts_few}
 use Rattle.calendar.proofs.Months.{year_most, first_months_rise}
 
 -- the hour lies in the month

@@ -1,5 +1,6 @@
--- The numbers and places of the refusals of a filling. Assumes nothing.
-use Rattle.std.specs.Prelude.{ℕ}
+-- The numbers, places and texts of the refusals of a filling. Assumes nothing.
+use Rattle.std.specs.Prelude.{ℕ, List, ◌++◌, codes}
+use Rattle.std.specs.Fmt.{decimal}
 use Rattle.calendar.specs.declared.fault.CalendarFault.{CalendarFault}
 use Rattle.calendar.specs.declared.fault.CalendarFault.TheVariants as fault
 
@@ -16,3 +17,7 @@ place fault.YearHours = 0
 place fault.Sizes = 0
 place (fault.Run p) = p
 place fault.Share = 0
+
+-- what is printed of a refusal, as `4, layer calendar, place 2`
+abbrev pub text : CalendarFault → List ℕ
+text f = decimal (number f) ++ codes ", layer calendar, place " ++ decimal (place f)

@@ -18,3 +18,7 @@ covers r h = nat_le r.first h && nat_lt h (ends r)
 -- the run's hours from `from` on and before `to`
 abbrev pub part : ℕ → ℕ → Run → List ℕ
 part from to r = span (max from r.first) (min to (ends r))
+
+-- how many they are
+abbrev pub part_hours : ℕ → ℕ → Run → ℕ
+part_hours from to r = min to (ends r) - max from r.first

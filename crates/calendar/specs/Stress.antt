@@ -1,5 +1,6 @@
 -- The stress hours of a calendar and of its months. Assumes nothing.
-use Rattle.std.specs.Prelude.{ℕ, Bool, false, ◌||◌, List, [], ◌∷◌, take, filter}
+use Rattle.std.specs.Prelude.{ℕ, Bool, List, take, filter}
+use Rattle.std.specs.List.{list_any}
 use Rattle.calendar.specs.declared.run.Run.{Run}
 use Rattle.calendar.specs.declared.year.Calendar.{Calendar}
 use Rattle.calendar.specs.Runs.{covers}
@@ -11,8 +12,7 @@ runs_of c = take c.count c.runs
 
 -- whether some run covers the hour
 abbrev pub some_covers : List Run → ℕ → Bool
-some_covers [] h = false
-some_covers (r ∷ rs) h = covers r h || some_covers rs h
+some_covers rs h = list_any (λ r. covers r h) rs
 
 -- whether an hour is a stress hour
 abbrev pub is_stress : Calendar → ℕ → Bool

@@ -2,6 +2,9 @@
 ghost use Rattle.std.specs.Prelude.{◌≡◌};
 ghost use Rattle.calendar.specs.Faults.{number, place};
 
+use std::error::Error;
+use std::fmt;
+
 /// A reason to refuse a filling, the first that applies.
 #[derive(Clone, Copy, PartialEq, Eq, Debug)]
 pub enum CalendarFault {
@@ -42,3 +45,19 @@ impl CalendarFault {
         }
     }
 }
+
+/// Writes the refusal's number, its layer and its place.
+impl fmt::Display for CalendarFault {
+    ghost use Rattle.std.specs.Prelude.{Some};
+    ghost use Rattle.calendar.specs.Faults.{text};
+
+    ghost output = { λ fault. Some (text fault) };
+
+    fn fmt<W: fmt::Write>(&self, f: &mut fmt::Formatter<W>) -> fmt::Result {
+        let number = self.number();
+        let place = self.place();
+        write!(f, "{number}, layer calendar, place {place}")
+    }
+}
+
+impl Error for CalendarFault {}

@@ -79,9 +79,9 @@ fn given_runs(firsts: &[u16], lengths: &[u16]) -> [Run; MOST_RUNS]
     ensures { take (length firsts.now) result ≡ given_runs firsts.now lengths.now }
 {
     let mut runs = [NO_RUN; MOST_RUNS];
-    for k in 0..firsts.len() {
+    for (k, first) in firsts.iter().enumerate() {
         runs[k] = Run {
-            first: firsts[k],
+            first: *first,
             len: lengths[k],
         };
     }

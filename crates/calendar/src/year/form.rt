@@ -1,13 +1,13 @@
 //! Which runs of stress hours a year may have.
-ghost use Rattle.std.specs.Prelude.{◌≡◌, ◌*◌, ◌≤◌, length, Decides, MatchOption};
+ghost use Rattle.std.specs.Prelude.{◌≡◌, ◌≤◌, length, Decides, MatchOption};
 ghost use Rattle.calendar.specs.Form.{InForm, Throughout, FirstBad, hours, RightShare};
 
 use crate::run::Run;
 
 /// At least one hour in so many is a stress hour.
-const LEAST_ONE_IN: u32 = 20;
+const LEAST_ONE_IN: u64 = 20;
 /// At most one hour in so many is a stress hour.
-const MOST_ONE_IN: u32 = 10;
+const MOST_ONE_IN: u64 = 10;
 
 /// The index of the first run that is out of form.
 pub(super) fn first_bad(year_hours: u32, runs: &[Run]) -> Option<usize>
@@ -16,11 +16,11 @@ pub(super) fn first_bad(year_hours: u32, runs: &[Run]) -> Option<usize>
     // The first hour at which the next run may begin.
     let mut free = 0;
     for (k, run) in runs.iter().enumerate() {
-        let ends = run.ends();
-        if run.len == 0 || ends > year_hours || u32::from(run.first) < free {
+        let span = run.span();
+        if run.len == 0 || span.end > year_hours || span.start < free {
             return Some(k);
         }
-        free = ends + 1;
+        free = span.end + 1;
     }
     None
 }
@@ -30,19 +30,15 @@ pub(super) fn right_share(year_hours: u32, runs: &[Run]) -> bool
     requires { length runs.now ≤ 366 }
     ensures { Decides result (RightShare year_hours runs.now) }
 {
-    let hours = hours_of(runs);
+    let hours = u64::from(hours_of(runs));
+    let year_hours = u64::from(year_hours);
     year_hours <= LEAST_ONE_IN * hours && MOST_ONE_IN * hours <= year_hours
 }
 
 /// The hours of all runs.
 fn hours_of(runs: &[Run]) -> u32
     requires { length runs.now ≤ 366 }
-    ensures value { result ≡ hours runs.now }
-    ensures bound { result ≤ 366 * 65535 }
+    ensures { result ≡ hours runs.now }
 {
-    let mut sum = 0;
-    for run in runs {
-        sum += u32::from(run.len);
-    }
-    sum
+    runs.iter().map(|run| u32::from(run.len)).sum()
 }

@@ -1,8 +1,9 @@
 //! The months of the year, Gregorian ones: February has a 29th day where the year has 8,784 hours.
-ghost use Rattle.std.specs.Prelude.{◌≡◌, ◌≤◌};
+ghost use Rattle.std.specs.Prelude.{◌≡◌, ◌*◌, ◌≤◌, sum};
 ghost use Rattle.calendar.specs.Months.{days, first_months, month_begins, month_ends};
 
 use super::{Calendar, LEAP_YEAR};
+use std::ops::Range;
 
 /// The months of a year.
 const MONTHS_A_YEAR: usize = 12;
@@ -27,17 +28,22 @@ impl Calendar {
         self.first_months(month)
     }
 
+    /// The hours of a month, from its first on and before the next month's.
+    pub fn month_hours(&self, month: u32) -> Range<u32>
+        ensures begins { result.start ≡ month_begins self.now.year_hours month }
+        ensures ends { result.end ≡ month_ends self.now.year_hours month }
+    {
+        self.month_begins(month)..self.month_ends(month)
+    }
+
     /// The hours of so many months from the first on, of which there are twelve.
     fn first_months(&self, months: u32) -> u32
         ensures value { result ≡ first_months self.now.year_hours months }
         ensures bound { result ≤ self.now.year_hours }
     {
         let days = self.days();
-        let mut sum = 0;
-        for i in 0..MONTHS_A_YEAR.min(months as usize) {
-            sum += days[i];
-        }
-        HOURS_A_DAY * sum
+        let months = MONTHS_A_YEAR.min(months as usize);
+        hours_of(&days[..months])
     }
 
     /// The days of each month.
@@ -47,4 +53,12 @@ impl Calendar {
         let february = if self.year_hours == LEAP_YEAR { 29 } else { 28 };
         [31, february, 31, 30, 31, 30, 31, 31, 30, 31, 30, 31]
     }
+}
+
+/// The hours of so many days.
+fn hours_of(days: &[u32]) -> u32
+    requires { sum days.now ≤ 366 }
+    ensures { result ≡ 24 * sum days.now }
+{
+    HOURS_A_DAY * days.iter().sum::<u32>()
 }

@@ -1,9 +1,11 @@
 //! Which hours of the year are stress hours, and how many a month has.
-ghost use Rattle.std.specs.Prelude.{◌≡◌, ◌≤◌, length};
+ghost use Rattle.std.specs.Prelude.{◌≡◌, ◌≤◌, length, sum_by};
+ghost use Rattle.calendar.specs.Runs.{part_hours};
 ghost use Rattle.calendar.specs.Stress.{runs_of, is_stress, stress_hours};
 
 use super::Calendar;
 use crate::run::Run;
+use std::ops::Range;
 
 impl Calendar {
     /// The runs of stress hours.
@@ -17,12 +19,7 @@ impl Calendar {
     pub fn is_stress(&self, hour: u32) -> bool
         ensures { result ≡ is_stress self.now hour }
     {
-        for run in self.runs() {
-            if run.covers(hour) {
-                return true;
-            }
-        }
-        false
+        self.runs().iter().any(|run| run.covers(hour))
     }
 
     /// How many stress hours a month has.
@@ -30,13 +27,14 @@ impl Calendar {
         ensures value { result ≡ length (stress_hours self.now month) }
         ensures bound { result ≤ 878 }
     {
-        let begins = self.month_begins(month);
-        let ends = self.month_ends(month);
-        let mut hours = 0;
-        for run in self.runs() {
-            let (first, after) = run.part(begins, ends);
-            hours += after.saturating_sub(first);
-        }
-        hours
+        hours_covered(self.runs(), &self.month_hours(month))
     }
+}
+
+/// How many of some hours that follow one another the runs cover.
+fn hours_covered(runs: &[Run], hours: &Range<u32>) -> u32
+    requires { sum_by (part_hours hours.now.start hours.now.end) runs.now ≤ 878 }
+    ensures { result ≡ sum_by (part_hours hours.now.start hours.now.end) runs.now }
+{
+    runs.iter().map(|run| run.part_hours(hours)).sum()
 }
