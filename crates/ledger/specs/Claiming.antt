@@ -32,7 +32,7 @@ put_claim m f x = record { measured = m.measured; claims = slice_set m.claims (f
 
 -- the book with another claim of the facility f
 abbrev pub with_claim : Book → ℕ → Claim → Book
-with_claim b f x = with_month b (record { measured = b.month.measured; claims = slice_set b.month.claims (f - 1) x })
+with_claim b f x = with_month b (put_claim b.month f x)
 
 abbrev pub claim_rows : Book → ℕ → Rows
 claim_rows b f =

@@ -36,11 +36,4 @@ booked_month b ls s = record {
 
 -- the month's lines are booked, its reports and claims end, and the next stage begins
 abbrev pub closed : Book → Book
-closed b = record {
-  calendar = b.calendar;
-  stage = moved call.Close b.stage;
-  register = b.register;
-  trade = b.trade;
-  month = new_month;
-  lines = slice_set b.lines (month_of b.stage - 1) (month_lines b (month_of b.stage));
-}
+closed b = booked_month b (month_lines b (month_of b.stage)) (moved call.Close b.stage)

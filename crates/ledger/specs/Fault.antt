@@ -1,5 +1,6 @@
--- The number, place and layer of a refused call's fault. Serves src/fault.rt. Assumes nothing.
-use Rattle.std.specs.Prelude.{ℕ}
+-- The number, place and layer of a refused call's fault, and how it is written. Serves src/fault.rt. Assumes nothing.
+use Rattle.std.specs.Prelude.{ℕ, List, ◌++◌, codes}
+use Rattle.std.specs.Fmt.{decimal}
 use Rattle.calendar.specs.Faults as calendar
 use Rattle.metering.specs.Fault as metering
 use Rattle.sharing.specs.Fault as sharing
@@ -26,3 +27,15 @@ fault_layer (fault.Calendar f) = layer.Calendar
 fault_layer (fault.Metering f) = layer.Metering
 fault_layer (fault.Sharing f) = layer.Sharing
 fault_layer (fault.Own r) = layer.Ledger
+
+-- a layer's name
+abbrev pub layer_text : Layer → List ℕ
+layer_text layer.Calendar = codes "calendar"
+layer_text layer.Metering = codes "metering"
+layer_text layer.Sharing = codes "sharing"
+layer_text layer.Ledger = codes "ledger"
+
+-- a fault as it is written: its number, its layer and its place
+abbrev pub fault_text : LedgerFault → List ℕ
+fault_text f =
+    decimal (fault_number f) ++ codes ", layer " ++ layer_text (fault_layer f) ++ codes ", place " ++ decimal (fault_place f)

@@ -23,10 +23,7 @@ own_letter r f letter =
 
 -- the refusals of a call that brings a report, up to the report itself: its letter is the facility's
 abbrev pub letter_rows : Call → Book → ℕ → ℕ → Rows
-letter_rows c b f letter =
-    course c b.stage
-    ++ (not (given_out f b.register.count), refusal.NoFacility)
-    ∷ (not (letter == (facility_at b.register (f - 1)).letter), refusal.OtherLetter) ∷ []
+letter_rows c b f letter = course c b.stage ++ own_letter b.register f letter
 
 -- what the report of the facility f comes to in the month under way, under the kW that it holds
 abbrev pub measured_for : {H : Type 0} → ℕ → ℕ → (H → ℕ → ℕ) → Book → ℕ → List H → Option Test → Result Measured MeteringFault
@@ -49,5 +46,5 @@ put_report m f x = record { measured = slice_set m.measured (f - 1) (Some x); cl
 
 -- the book with what the facility's report came to
 abbrev pub with_measured : Book → ℕ → Result Measured MeteringFault → Book
-with_measured b f (Ok m) = with_month b (record { measured = slice_set b.month.measured (f - 1) (Some m); claims = b.month.claims })
+with_measured b f (Ok m) = with_month b (put_report b.month f m)
 with_measured b f (Err e) = b

@@ -22,5 +22,4 @@ abbrev pub put_switch : Register → ℕ → Bool → Register
 put_switch r f on = record { facilities = slice_set r.facilities (f - 1) (set_on (facility_at r (f - 1)) on); count = r.count }
 
 abbrev pub switched : Book → ℕ → Bool → Book
-switched b f on =
-    with_register b (record { facilities = slice_set b.register.facilities (f - 1) (set_on (facility_at b.register (f - 1)) on); count = b.register.count })
+switched b f on = with_register b (put_switch b.register f on)

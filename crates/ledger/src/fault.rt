@@ -1,15 +1,17 @@
 //! A refused call's fault: the lower layer's, carried whole, or the ledger's own.
-ghost use Rattle.std.specs.Prelude.{◌≡◌};
-ghost use Rattle.ledger.specs.Fault.{fault_number, fault_place, fault_layer};
+ghost use Rattle.std.specs.Prelude.{◌≡◌, Some};
+ghost use Rattle.ledger.specs.Fault.{fault_number, fault_place, fault_layer, layer_text, fault_text};
 ghost use Rattle.ledger.specs.declared.fault.LedgerFault.TheVariants as ledger;
 
 use crate::Refusal;
 use calendar::CalendarFault;
 use metering::MeteringFault;
 use sharing::SharingFault;
+use std::error::Error;
+use std::fmt;
 
 /// Why a call was refused.
-#[derive(Clone, Copy)]
+#[derive(Clone, Copy, PartialEq, Eq, Debug)]
 pub enum LedgerFault {
     /// By the calendar, which an opening fills.
     Calendar(CalendarFault),
@@ -99,3 +101,29 @@ impl From<Refusal> for LedgerFault {
         LedgerFault::Own(refusal)
     }
 }
+
+impl fmt::Display for Layer {
+    ghost output = { λ layer. Some (layer_text layer) };
+
+    fn fmt<W: fmt::Write>(&self, f: &mut fmt::Formatter<W>) -> fmt::Result {
+        f.write_str(match self {
+            Layer::Calendar => "calendar",
+            Layer::Metering => "metering",
+            Layer::Sharing => "sharing",
+            Layer::Ledger => "ledger",
+        })
+    }
+}
+
+impl fmt::Display for LedgerFault {
+    ghost output = { λ fault. Some (fault_text fault) };
+
+    fn fmt<W: fmt::Write>(&self, f: &mut fmt::Formatter<W>) -> fmt::Result {
+        let number = self.number();
+        let layer = self.layer();
+        let place = self.place();
+        write!(f, "{number}, layer {layer}, place {place}")
+    }
+}
+
+impl Error for LedgerFault {}

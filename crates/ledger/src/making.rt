@@ -24,11 +24,6 @@ const NO_AWARD: Award = Award {
     price: 0,
     held: [0; MOST_FACILITIES],
 };
-/// A line on which nothing is booked.
-pub(crate) const NO_LINE: Line = Line {
-    right: 0,
-    penalty: 0,
-};
 /// A month for which nothing has come in.
 pub(crate) const NEW_MONTH: Month = Month {
     measured: [None; MOST_FACILITIES],
@@ -63,6 +58,6 @@ fn blank_book() -> Book
             count: 0,
         },
         month: NEW_MONTH,
-        lines: [[NO_LINE; MOST_FACILITIES]; MONTHS],
+        lines: [[Line::default(); MOST_FACILITIES]; MONTHS],
     }
 }

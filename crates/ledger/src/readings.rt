@@ -5,7 +5,6 @@ ghost use Rattle.ledger.specs.Lines.{closed_months};
 ghost use Rattle.ledger.specs.Readings.{holding_at, booked_at};
 
 use crate::kept::Ledger;
-use crate::making::NO_LINE;
 use crate::state::{Line, MOST_FACILITIES, Stage};
 
 impl Ledger {
@@ -53,10 +52,10 @@ impl Ledger {
         ensures bound { Bounded result }
     {
         if !self.stage().has_closed(month) {
-            return NO_LINE;
+            return Line::default();
         }
         if facility == 0 || facility as usize > MOST_FACILITIES {
-            return NO_LINE;
+            return Line::default();
         }
         self.book.booked_line(month, facility)
     }

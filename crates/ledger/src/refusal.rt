@@ -6,41 +6,41 @@ ghost use Rattle.ledger.specs.Refusals.{number};
 #[derive(Clone, Copy, PartialEq, Eq, Debug)]
 pub enum Refusal {
     /// No opening was accepted yet.
-    NotOpened,
+    NotOpened = 1,
     /// An opening was accepted before.
-    OpenedTwice,
+    OpenedTwice = 2,
     /// The year is over.
-    YearOver,
+    YearOver = 6,
     /// The call does not belong to this phase.
-    WrongPhase,
+    WrongPhase = 7,
     /// There is no facility of this number.
-    NoFacility,
+    NoFacility = 8,
     /// There is no award of this number.
-    NoAward,
+    NoAward = 9,
     /// 64 facilities or 32 awards stand.
-    NoRoom,
+    NoRoom = 10,
     /// A figure is outside its limits.
-    OutOfLimits,
+    OutOfLimits = 11,
     /// The giver is the taker.
-    GiverIsTaker,
+    GiverIsTaker = 12,
     /// The taker is switched off.
-    TakerOff,
+    TakerOff = 13,
     /// The giver holds less.
-    HoldsLess,
+    HoldsLess = 14,
     /// Firm power would be exceeded.
-    OverFirm,
+    OverFirm = 15,
     /// The kind's letter is not the facility's.
-    OtherLetter,
+    OtherLetter = 16,
     /// The facility has claimed this month.
-    ClaimedTwice,
+    ClaimedTwice = 19,
     /// There is no open claim to answer.
-    NoClaim,
+    NoClaim = 20,
     /// A claim is still open.
-    ClaimOpen,
+    ClaimOpen = 21,
     /// There are too many rows or MWh.
-    RowsOutOfLimits,
+    RowsOutOfLimits = 22,
     /// The month is not closed.
-    NotClosed,
+    NotClosed = 24,
 }
 
 impl Refusal {
@@ -48,25 +48,6 @@ impl Refusal {
     pub fn number(self) -> u32
         ensures { result ≡ number self }
     {
-        match self {
-            Refusal::NotOpened => 1,
-            Refusal::OpenedTwice => 2,
-            Refusal::YearOver => 6,
-            Refusal::WrongPhase => 7,
-            Refusal::NoFacility => 8,
-            Refusal::NoAward => 9,
-            Refusal::NoRoom => 10,
-            Refusal::OutOfLimits => 11,
-            Refusal::GiverIsTaker => 12,
-            Refusal::TakerOff => 13,
-            Refusal::HoldsLess => 14,
-            Refusal::OverFirm => 15,
-            Refusal::OtherLetter => 16,
-            Refusal::ClaimedTwice => 19,
-            Refusal::NoClaim => 20,
-            Refusal::ClaimOpen => 21,
-            Refusal::RowsOutOfLimits => 22,
-            Refusal::NotClosed => 24,
-        }
+        self as u32
     }
 }

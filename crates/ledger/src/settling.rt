@@ -40,10 +40,8 @@ pub(crate) fn share_within<R: SharingRule>(
     ensures answer { result ≡ ruled (limit_rows rows.old) (shared total (R.weights rule.now total (mwhs rows.old))) }
     ensures rows { rows.new ≡ kept_or result (charged rows.old (R.charges rule.now total (mwhs rows.old))) rows.old }
 {
-    match check_rows(rows) {
-        Ok(()) => share(rule, total, rows),
-        Err(refusal) => Err(LedgerFault::Own(refusal)),
-    }
+    check_rows(rows)?;
+    share(rule, total, rows)
 }
 
 /// Refuses rows that are too many, or have too many MWh.

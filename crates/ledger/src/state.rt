@@ -71,7 +71,7 @@ pub struct Month {
 }
 
 /// What is booked for a facility in a closed month, in cents.
-#[derive(Clone, Copy, PartialEq, Eq, Debug)]
+#[derive(Clone, Copy, PartialEq, Eq, Debug, Default)]
 pub struct Line {
     pub right: u64,
     pub penalty: u64,
