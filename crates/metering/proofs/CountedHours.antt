@@ -1,8 +1,6 @@
 -- How many hours count: the stress hours, and the failed hours of the test that are no stress hours. Assumes nothing.
-use Rattle.std.proofs.Common.{◌≡◌, ℕ, zero, suc, ◌+◌, ◌-◌, ◌<◌, ◌≤◌, Bool, true, false, cond, not, ◌&&◌, ◌||◌, ltb, leb, List, [], ◌∷◌, length, get_or, Some, Ok, Err, sum_by, count_by, sym, refl, ap, ◌∙◌, arith}
+use Rattle.std.proofs.Common.{◌≡◌, ℕ, zero, suc, ◌+◌, ◌-◌, ◌<◌, ◌≤◌, Bool, true, false, cond, not, ◌&&◌, ◌||◌, ltb, leb, List, [], ◌∷◌, length, Some, Ok, Err, count_by, sym, refl, ap, ◌∙◌, arith}
 use Rattle.std.specs.List.{range_with_len}
-use Rattle.std.proofs.lemmas.List.{map-id}
-use Rattle.std.proofs.lemmas.List.FromFn.{sum_by-map-range_with_len_more}
 use Rattle.std.proofs.lemmas.List.Sums.{sum_by-cons, length-filter}
 use Rattle.std.proofs.lemmas.Bool.{cond-true, lt-leb, le-ltb}
 use Rattle.std.proofs.lemmas.Bool.Decides.{nat_tests}
@@ -12,12 +10,8 @@ use Rattle.calendar.specs.Stress.{is_stress, stress_hours}
 use Rattle.metering.specs.declared.report.Energy.{Energy}
 use Rattle.metering.specs.declared.report.Test.{Test}
 use Rattle.metering.specs.declared.fault.MeteringFault.TheVariants as fault
-use Rattle.metering.specs.Testing.{failed, failed_at, failed_in, no_energy, wrong_place, in_order}
+use Rattle.metering.specs.Testing.{failed_at, failed_in, wrong_place, in_order}
 use Rattle.metering.specs.Measuring.{counted_hours, only_failed, failed_outside, test_in_order, counting_with}
-
--- one number more
-sum_by-counting_more : (g : ℕ → ℕ) (a n : ℕ) → sum_by g (range_with_len a (n + 1)) ≡ sum_by g (range_with_len a n) + g (a + n)
-sum_by-counting_more g a n = rw (map-id (range_with_len a (n + 1)), map-id (range_with_len a n)) at (sum_by-map-range_with_len_more g (λ x. x) a n (a + n) refl)
 
 -- what passes either test, counted once: what passes the first, and what passes only the second
 count_either : {X : Type 0} (p q : X → Bool) (xs : List X) → count_by (λ x. p x || q x) xs ≡ count_by p xs + count_by (λ x. q x && not (p x)) xs
@@ -63,19 +57,6 @@ module _ (first : ℕ) (es : List Energy) where
 
   failed_behind : (h : ℕ) → first + length es ≤ h → failed_at first es h ≡ false
   failed_behind h le = let no : ltb (h - first) (length es) ≡ false = le-ltb (h - first) (length es) (omega arith) in grind (arith, nat_tests)
-
-  -- and of its hours those whose energy says so
-  pub failed_inside : (i : ℕ) → i < length es → failed_at first es (first + i) ≡ failed (get_or es i no_energy)
-  failed_inside i lt =
-      let back : first + i - first ≡ i = omega arith in
-      let inside : (leb first (first + i) && ltb (first + i - first) (length es)) ≡ true = grind (arith, nat_tests) in
-      ap (λ b. b && failed (get_or es (first + i - first) no_energy)) inside ∙ ap (λ n. failed (get_or es n no_energy)) back
-
--- one hour more of a test
-pub outside_more : (c : Calendar) (first : ℕ) (es : List Energy) (i : ℕ) (b : Bool) → i < length es → b ≡ (failed (get_or es i no_energy) && not (is_stress c (first + i))) → count_by (only_failed c first es) (range_with_len first (i + 1)) ≡ count_by (only_failed c first es) (range_with_len first i) + cond b 1 0
-outside_more c first es i b lt is =
-    sum_by-counting_more (λ h. cond (only_failed c first es h) 1 0) first i
-    ∙ ap (λ t. count_by (only_failed c first es) (range_with_len first i) + cond t 1 0) (ap (λ f. f && not (is_stress c (first + i))) (failed_inside first es i lt) ∙ sym is)
 
 -- with a test in the month, its failed hours that are no stress hours count beside the stress hours
 counted_with_test : (c : Calendar) (m first : ℕ) (es : List Energy) → month_begins c.year_hours m ≤ first → first + length es ≤ month_ends c.year_hours m → length (counted_hours c m (failed_at first es)) ≡ length (stress_hours c m) + failed_outside c first es

@@ -1,5 +1,5 @@
 -- The number and the place of a refused report. Serves src/fault.rt. Assumes nothing.
-use Rattle.std.specs.Prelude.{ℕ}
+use Rattle.std.specs.Prelude.{ℕ, unwrap_or}
 use Rattle.metering.specs.declared.fault.MeteringFault.{MeteringFault}
 use Rattle.metering.specs.declared.fault.MeteringFault.TheVariants as fault
 
@@ -9,4 +9,4 @@ number (fault.Test p) = 18
 
 abbrev pub place : MeteringFault → ℕ
 place fault.Records = 0
-place (fault.Test p) = p
+place (fault.Test p) = unwrap_or p 0

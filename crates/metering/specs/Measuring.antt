@@ -35,8 +35,8 @@ test_in_order shortest longest c m (Some t) =
     in_order shortest longest (month_begins c.year_hours m) (month_ends c.year_hours m) t.first t.hours.now
 
 -- the place of a test's refusal
-abbrev pub test_place : Option Test → ℕ
-test_place None = 0
+abbrev pub test_place : Option Test → Option ℕ
+test_place None = None
 test_place (Some t) = wrong_place t.hours.now
 
 -- how many hours count with the test, or the refusal of the test

@@ -1,6 +1,6 @@
 -- Tests: which of their hours failed, and when a test is in order. Serves src/testing.rt. Assumes nothing.
-use Rattle.std.specs.Prelude.{ℕ, ◌+◌, ◌-◌, ◌*◌, ◌^◌, min, Bool, false, cond, ◌&&◌, List, length, Some, None, Option, ◌==◌, nat_le, nat_lt, slice_index_or}
-use Rattle.std.specs.List.{prefix_len}
+use Rattle.std.specs.Prelude.{ℕ, ◌+◌, ◌-◌, ◌*◌, ◌^◌, min, Bool, false, not, ◌&&◌, List, length, Some, None, Option, is_none, position, nat_le, nat_lt, slice_index_or}
+use Rattle.std.specs.Option.{option_map}
 use Rattle.metering.specs.declared.report.Energy.{Energy}
 use Rattle.metering.specs.declared.report.Test.{Test}
 
@@ -25,13 +25,13 @@ failed_in (Some t) h = failed_at t.first t.hours.now h
 abbrev pub right_order : Energy → Bool
 right_order e = nat_le 1 e.ordered && nat_le e.ordered 1_000_000
 
--- the first hour of a test whose ordered energy is not right, counted from 1; 0 where there is none. A place has 32 bits,
+-- the first hour of a test whose ordered energy is not right, counted from 1; none where each is right. A place has 32 bits,
 -- so one beyond them is given as the largest number of 32 bits
-abbrev pub wrong_place : List Energy → ℕ
-wrong_place es = cond (nat_lt (prefix_len right_order es) (length es)) (min (prefix_len right_order es + 1) (2 ^ 32 - 1)) 0
+abbrev pub wrong_place : List Energy → Option ℕ
+wrong_place es = option_map (λ i. min (i + 1) (2 ^ 32 - 1)) (position (λ e. not (right_order e)) es)
 
 -- whether a test is in order: as long as the kind wants it, from `begins` on and before `ends`, its ordered energies right
 abbrev pub in_order : ℕ → ℕ → ℕ → ℕ → ℕ → List Energy → Bool
 in_order shortest longest begins ends first es =
-    (wrong_place es == 0 && (nat_le shortest (length es) && nat_le (length es) longest))
+    (is_none (wrong_place es) && (nat_le shortest (length es) && nat_le (length es) longest))
     && (nat_le begins first && nat_le (first + length es) ends)

@@ -2,6 +2,9 @@
 ghost use Rattle.std.specs.Prelude.{◌≡◌};
 ghost use Rattle.metering.specs.Fault.{number, place};
 
+use std::error::Error;
+use std::fmt;
+
 /// A reason to refuse a report, the first that applies.
 #[derive(Clone, Copy, PartialEq, Eq, Debug)]
 pub enum MeteringFault {
@@ -10,8 +13,8 @@ pub enum MeteringFault {
     /// The test is too short or too long, does not lie in the month, or has an hour whose ordered energy is outside its
     /// limits.
     Test {
-        /// The first such hour, counted from 1, or 0.
-        place: u32,
+        /// The first such hour, counted from 1, if there is one.
+        place: Option<u32>,
     },
 }
 
@@ -32,7 +35,20 @@ impl MeteringFault {
     {
         match self {
             MeteringFault::Records => 0,
-            MeteringFault::Test { place } => place,
+            MeteringFault::Test { place } => place.unwrap_or(0),
         }
     }
 }
+
+impl fmt::Display for MeteringFault {
+    fn fmt<W: fmt::Write>(&self, f: &mut fmt::Formatter<W>) -> fmt::Result {
+        write!(
+            f,
+            "{}, layer metering, place {}",
+            self.number(),
+            self.place()
+        )
+    }
+}
+
+impl Error for MeteringFault {}

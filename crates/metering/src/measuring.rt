@@ -1,11 +1,11 @@
 //! What a report comes to: counted hours and credited energy.
-ghost use Rattle.std.specs.Prelude.{◌≡◌, ◌+◌, ◌*◌, ◌<◌, ◌≤◌, true, false, not, ◌&&◌, length, MatchOption, slice_index_or};
-ghost use Rattle.calendar.specs.Stress.{stress_hours, is_stress};
-ghost use Rattle.metering.specs.Testing.{failed, failed_in};
+ghost use Rattle.std.specs.Prelude.{◌≡◌, ◌+◌, ◌*◌, ◌<◌, ◌≤◌, true, false, length, MatchOption, slice_index_or};
+ghost use Rattle.calendar.specs.Stress.{stress_hours};
+ghost use Rattle.metering.specs.Testing.{failed_in};
 ghost use Rattle.metering.specs.Measuring.{credited_energy, failed_outside, counting_with, measuring};
 
-use crate::testing::{check_test, failed, failed_in};
-use crate::{Energy, Kind, MeteringFault, Report, Test};
+use crate::testing::failed_in;
+use crate::{Kind, MeteringFault, Report, Test};
 use calendar::Calendar;
 
 /// What a month of a facility comes to: how many hours count, and the energy credited in them, in kWh.
@@ -64,11 +64,7 @@ fn counted<K: Kind>(
     let Some(test) = test else {
         return Ok(stress);
     };
-    check_test::<K>(
-        calendar.month_begins(month),
-        calendar.month_ends(month),
-        test,
-    )?;
+    test.check::<K>(calendar.month_begins(month)..calendar.month_ends(month))?;
     Ok(stress + failed_outside(calendar, test))
 }
 
@@ -78,18 +74,9 @@ fn failed_outside(calendar: &Calendar, test: &Test) -> u32
     ensures value { result ≡ failed_outside calendar.now test.now.first test.now.hours.now }
     ensures bound { result ≤ 8784 }
 {
-    let mut hours = 0;
-    for (i, energy) in test.hours.iter().enumerate() {
-        hours += u32::from(only_failed(calendar, test.first + i as u32, *energy));
-    }
-    hours
-}
-
-/// Whether an hour of a test failed and is no stress hour, which counts by itself.
-fn only_failed(calendar: &Calendar, hour: u32, energy: Energy) -> bool
-    ensures { result ≡ (failed energy && not (is_stress calendar.now hour)) }
-{
-    failed(energy) && !calendar.is_stress(hour)
+    (test.first..test.first + test.hours.len() as u32)
+        .filter(|hour| test.failed_at(*hour) && !calendar.is_stress(*hour))
+        .count() as u32
 }
 
 /// The energy credited under a commitment in the stress hours of a month, by their records.

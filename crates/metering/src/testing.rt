@@ -1,9 +1,10 @@
 //! Tests: which of their hours failed, and when a test is in order.
-ghost use Rattle.std.specs.Prelude.{◌≡◌, ◌+◌, ◌-◌, ◌^◌, min, ◌&&◌, length, if◌then◌else◌, Ok, Err, nat_le};
+ghost use Rattle.std.specs.Prelude.{◌≡◌, ◌+◌, ◌-◌, ◌^◌, min, not, ◌&&◌, length, position, if◌then◌else◌, Ok, Err, nat_le};
 ghost use Rattle.metering.specs.Testing.{failed, failed_at, failed_in, right_order, wrong_place, in_order};
 ghost use Rattle.metering.specs.declared.fault.MeteringFault.TheVariants as fault;
 
 use crate::{Energy, Kind, MeteringFault, Test};
+use std::ops::Range;
 
 /// An hour fails that delivers at most so many per cent of what was ordered.
 const FAILS_AT: u64 = 95;
@@ -11,51 +12,81 @@ const FAILS_AT: u64 = 95;
 /// The most energy that may be ordered for an hour, in kWh.
 const MOST_ORDERED: u32 = 1_000_000;
 
-/// Whether an hour of a test failed.
-pub(crate) fn failed(energy: Energy) -> bool
-    ensures { result ≡ failed energy }
-{
-    100 * u64::from(energy.delivered) <= FAILS_AT * u64::from(energy.ordered)
+impl Energy {
+    /// Whether the hour failed.
+    fn has_failed(self) -> bool
+        ensures { result ≡ failed self }
+    {
+        100 * u64::from(self.delivered) <= FAILS_AT * u64::from(self.ordered)
+    }
+
+    /// Whether the ordered energy is within its limits.
+    fn has_right_order(self) -> bool
+        ensures { result ≡ right_order self }
+    {
+        (1..=MOST_ORDERED).contains(&self.ordered)
+    }
+}
+
+impl Test<'_> {
+    /// Refuses a test that is not in order for the kind, in a month of these hours.
+    pub(crate) fn check<K: Kind>(&self, month: Range<u32>) -> Result<(), MeteringFault>
+        ensures { result ≡ (if in_order K.shortest K.longest month.start month.end self.now.first self.now.hours.now then Ok tt else Err (fault.Test (wrong_place self.now.hours.now))) }
+    {
+        let place = self.wrong_place();
+        if place.is_none() && self.lasts::<K>() && self.lies_in(month) {
+            return Ok(());
+        }
+        Err(MeteringFault::Test { place })
+    }
+
+    /// Whether this hour of the year is a failed hour of the test.
+    pub(crate) fn failed_at(&self, hour: u32) -> bool
+        ensures { result ≡ failed_at self.now.first self.now.hours.now hour }
+    {
+        hour.checked_sub(self.first)
+            .and_then(|i| self.hours.get(i as usize))
+            .is_some_and(|energy| energy.has_failed())
+    }
+
+    /// The first hour of the test whose ordered energy is outside its limits, counted from 1.
+    fn wrong_place(&self) -> Option<u32>
+        ensures { result ≡ wrong_place self.now.hours.now }
+    {
+        self.first_wrong().map(place_at)
+    }
+
+    /// The index of the first hour whose ordered energy is outside its limits.
+    fn first_wrong(&self) -> Option<usize>
+        ensures { result ≡ position (λ energy. not (right_order energy)) self.now.hours.now }
+    {
+        self.hours
+            .iter()
+            .position(|energy| !energy.has_right_order())
+    }
+
+    /// Whether the test is as long as the kind wants it.
+    fn lasts<K: Kind>(&self) -> bool
+        ensures { result ≡ (nat_le K.shortest (length self.now.hours.now) && nat_le (length self.now.hours.now) K.longest) }
+    {
+        let hours = self.hours.len() as u64;
+        u64::from(K::shortest_test()) <= hours && hours <= u64::from(K::longest_test())
+    }
+
+    /// Whether the test lies in a month of these hours.
+    fn lies_in(&self, month: Range<u32>) -> bool
+        ensures { result ≡ (nat_le month.start self.now.first && nat_le (self.now.first + length self.now.hours.now) month.end) }
+    {
+        let after = u64::from(self.first).saturating_add(self.hours.len() as u64);
+        month.start <= self.first && after <= u64::from(month.end)
+    }
 }
 
 /// Whether this hour of the year is a failed hour of the test, if there is one.
 pub(crate) fn failed_in(test: &Option<Test>, hour: u32) -> bool
     ensures { result ≡ failed_in test.now hour }
 {
-    match test {
-        Some(test) => failed_at(test, hour),
-        None => false,
-    }
-}
-
-/// Whether this hour of the year is a failed hour of the test.
-fn failed_at(test: &Test, hour: u32) -> bool
-    ensures { result ≡ failed_at test.now.first test.now.hours.now hour }
-{
-    if hour < test.first {
-        return false;
-    }
-    let i = (hour - test.first) as usize;
-    i < test.hours.len() && failed(test.hours[i])
-}
-
-/// Whether an ordered energy is within its limits.
-fn right_order(energy: Energy) -> bool
-    ensures { result ≡ right_order energy }
-{
-    1 <= energy.ordered && energy.ordered <= MOST_ORDERED
-}
-
-/// The first hour of a test whose ordered energy is outside its limits, counted from 1; 0 where there is none.
-fn wrong_place(hours: &[Energy]) -> u32
-    ensures { result ≡ wrong_place hours.now }
-{
-    for (i, energy) in hours.iter().enumerate() {
-        if !right_order(*energy) {
-            return place_at(i);
-        }
-    }
-    0
+    test.as_ref().is_some_and(|test| test.failed_at(hour))
 }
 
 /// The place of what stands at an index; one beyond 32 bits is given as the largest number of 32 bits.
@@ -63,31 +94,4 @@ fn place_at(index: usize) -> u32
     ensures { result ≡ min (index + 1) (2 ^ 32 - 1) }
 {
     u32::try_from(index).unwrap_or(u32::MAX).saturating_add(1)
-}
-
-/// Whether a test is as long as the kind wants it.
-fn lasts<K: Kind>(test: &Test) -> bool
-    ensures { result ≡ (nat_le K.shortest (length test.now.hours.now) && nat_le (length test.now.hours.now) K.longest) }
-{
-    let hours = test.hours.len() as u64;
-    u64::from(K::shortest_test()) <= hours && hours <= u64::from(K::longest_test())
-}
-
-/// Whether a test lies in the hours from `begins` on and before `ends`.
-fn lies_in(begins: u32, ends: u32, test: &Test) -> bool
-    ensures { result ≡ (nat_le begins test.now.first && nat_le (test.now.first + length test.now.hours.now) ends) }
-{
-    let after = u64::from(test.first).saturating_add(test.hours.len() as u64);
-    begins <= test.first && after <= u64::from(ends)
-}
-
-/// Refuses a test that is not in order for the kind, in a month of the hours from `begins` on and before `ends`.
-pub(crate) fn check_test<K: Kind>(begins: u32, ends: u32, test: &Test) -> Result<(), MeteringFault>
-    ensures { result ≡ (if in_order K.shortest K.longest begins ends test.now.first test.now.hours.now then Ok tt else Err (fault.Test (wrong_place test.now.hours.now))) }
-{
-    let place = wrong_place(test.hours);
-    if place == 0 && lasts::<K>(test) && lies_in(begins, ends, test) {
-        return Ok(());
-    }
-    Err(MeteringFault::Test { place })
 }

@@ -23,7 +23,7 @@ returns g c =
     let order : ℕ → ℕ → Bool = λ begins ends. in_order shortest longest begins ends test.first test.hours.now in
     let begins = c.month_begins.result in
     let ends = c.month_ends.result in
-    let checked = accepted (order begins ends) c.in_ok-check_test.field-0 (fault.Test (wrong_place test.hours.now)) c.in_ok-check_test.ensures in
+    let checked = accepted (order begins ends) c.in_ok-check.field-0 (fault.Test (wrong_place test.hours.now)) c.in_ok-check.ensures in
     let ordered : order (month_begins calendar.year_hours month) (month_ends calendar.year_hours month) ≡ true =
     ap (λ n. order n (month_ends calendar.year_hours month)) (sym c.month_begins.ensures.value) ∙ ap (order begins) (sym c.month_ends.ensures.value) ∙ checked in
     let hours : ℕ = c.stress_hours_in-stress.result + c.failed_outside.result in
