@@ -1,6 +1,6 @@
 //! Why a report was not taken.
-ghost use Rattle.std.specs.Prelude.{◌≡◌};
-ghost use Rattle.metering.specs.Fault.{number, place};
+ghost use Rattle.std.specs.Prelude.{◌≡◌, Some};
+ghost use Rattle.metering.specs.Fault.{number, place, text};
 
 use std::error::Error;
 use std::fmt;
@@ -41,6 +41,8 @@ impl MeteringFault {
 }
 
 impl fmt::Display for MeteringFault {
+    ghost output = { λ fault. Some (text fault) };
+
     fn fmt<W: fmt::Write>(&self, f: &mut fmt::Formatter<W>) -> fmt::Result {
         write!(
             f,
