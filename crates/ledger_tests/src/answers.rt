@@ -1,5 +1,5 @@
 //! The ledger's answers, each held against the one that the call of this number is to get.
-use ledger::{Layer, Ledger, LedgerFault};
+use ledger::{Layer, Ledger, LedgerFault, Line};
 use std::fmt::Debug;
 use std::process::Abort;
 use std::test::Fail;
@@ -33,8 +33,8 @@ pub fn refused<T: Drop>(
         Ok(_) => Err(Fail::new(format_args!("call {call}: accepted"))),
         Err(fault) => {
             assert_eq!(rt;
-                (fault.number(), name(fault.layer()), fault.place()),
-                (number, name(layer), place),
+                (fault.number(), fault.layer(), fault.place()),
+                (number, layer, place),
                 "call {call}"
             );
             Ok(())
@@ -52,12 +52,12 @@ pub fn barred<T: Drop>(
     refused(rt, call, answer, number, Layer::Ledger, 0)
 }
 
-/// The facility's right and penalty in the month, as its line is read.
-pub fn read(ledger: &Ledger, month: u32, facility: u32) -> Result<(u64, u64), Fail> {
-    match ledger.line(month, facility) {
-        Ok(line) => Ok((line.right, line.penalty)),
-        Err(fault) => Err(Fail::new(format_args!("no line: refused by {}", fault.number()))),
-    }
+/// The facility's line of the month, as it is read.
+pub fn read(ledger: &Ledger, month: u32, facility: u32) -> Result<Line, Fail> {
+    ledger.line(month, facility).map_err(|fault| Fail::new(format_args!(
+        "no line: refused by {}",
+        fault.number()
+    )))
 }
 
 /// The facility's line of the month has this right and this penalty.
@@ -71,17 +71,8 @@ pub fn booked(
 ) -> Result<(), Fail> {
     assert_eq!(rt;
         read(ledger, month, facility)?,
-        (right, penalty),
+        Line { right, penalty },
         "month {month}, facility {facility}"
     );
     Ok(())
-}
-
-fn name(layer: Layer) -> &'static str {
-    match layer {
-        Layer::Calendar => "calendar",
-        Layer::Metering => "metering",
-        Layer::Sharing => "sharing",
-        Layer::Ledger => "ledger",
-    }
 }

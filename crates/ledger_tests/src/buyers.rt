@@ -30,12 +30,5 @@ pub fn idle(charge: u64) -> [Row; 2] {
 
 /// The rows that a call left are these.
 pub fn left(rt: &impl Abort, call: u32, rows: &[Row], expected: &[Row]) {
-    assert_eq!(rt; rows.len(), expected.len());
-    for (row, other) in rows.iter().zip(expected.iter()) {
-        assert_eq!(rt;
-            (row.id, row.mwh, row.charge),
-            (other.id, other.mwh, other.charge),
-            "rows of call {call}"
-        );
-    }
+    assert_eq!(rt; rows, expected, "rows of call {call}");
 }

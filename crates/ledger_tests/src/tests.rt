@@ -3,7 +3,7 @@ use crate::answers::{accepted, barred, booked, read};
 use crate::buyers::{BEFORE, BUYERS, buyers, charged, idle, left};
 use crate::january::{FIRSTS, LENGTHS, keep_january, module};
 use calendar::LEAP_YEAR;
-use ledger::{Ledger, MOST_MODULES};
+use ledger::{Ledger, Line, MOST_MODULES};
 use sharing::{Remainder, Running, SharingRule};
 use std::process::Abort;
 use std::test::Fail;
@@ -91,7 +91,7 @@ fn year_of(ledger: &Ledger, facility: u32) -> Result<(u64, u64), Fail> {
     let mut rights: u64 = 0;
     let mut penalties: u64 = 0;
     for month in 1..=12 {
-        let (right, penalty) = read(ledger, month, facility)?;
+        let Line { right, penalty } = read(ledger, month, facility)?;
         rights = rights.saturating_add(right);
         penalties = penalties.saturating_add(penalty);
     }

@@ -1,23 +1,23 @@
 //! What the ledger answered, held against what the year expects: an expected refusal is printed and the year goes on,
 //! any other surprise ends the program.
-ghost use Rattle.std.specs.Prelude.{◌≡◌, IfOk, Ok, MatchResult, OnOk};
-ghost use Rattle.ledger.specs.Fault.{fault_number};
+ghost use Rattle.std.specs.Prelude.{◌≡◌, IfOk, Ok, Err, OnOk};
 
 use anyhow::anyhow;
-use ledger::{Layer, LedgerFault};
+use ledger::LedgerFault;
+use std::fmt::Display;
 
 /// What an accepted call answered. Where it was refused, the refusal is printed and the year cannot go on.
-pub fn accepted<T: Drop>(
+pub fn accepted<T: Drop, E: Display + Drop>(
     rt: &HostRuntime,
     call: &str,
-    answer: Result<T, LedgerFault>,
+    answer: Result<T, E>,
 ) -> anyhow::Result<T>
     ensures { IfOk result (λ value. answer ≡ Ok value) }
 {
     match answer {
         Ok(value) => Ok(value),
         Err(fault) => {
-            print_refusal(rt, call, fault)?;
+            println!(rt; "refused: {call}: {fault}")?;
             Err(anyhow!("a call was refused that is to be accepted"))
         }
     }
@@ -38,42 +38,22 @@ pub fn numbered(
     Ok(())
 }
 
-/// Prints a refusal that is met on the way. Where the call was accepted, or refused by another number, the year cannot
+/// Prints a refusal that is met on the way. Where the call was accepted, or refused for another reason, the year cannot
 /// go on.
 pub fn refused<T: Drop>(
     rt: &HostRuntime,
     call: &str,
-    number: u32,
+    expected: LedgerFault,
     answer: Result<T, LedgerFault>,
 ) -> anyhow::Result<()>
-    ensures { OnOk result (MatchResult answer (λ _. ⊥) (λ fault. fault_number fault ≡ number)) }
+    ensures { OnOk result (answer ≡ Err expected) }
 {
     let Err(fault) = answer else {
         return Err(anyhow!("a call was accepted that is to be refused"));
     };
-    print_refusal(rt, call, fault)?;
-    if fault.number() != number {
-        return Err(anyhow!("a call was refused by another number"));
+    println!(rt; "refused: {call}: {fault}")?;
+    if fault != expected {
+        return Err(anyhow!("a call was refused for another reason"));
     }
     Ok(())
-}
-
-/// Prints a refusal's number, layer and place.
-fn print_refusal(rt: &HostRuntime, call: &str, fault: LedgerFault) -> anyhow::Result<()> {
-    println!(rt;
-        "refused: {call}: {}, layer {}, place {}",
-        fault.number(),
-        layer_name(fault.layer()),
-        fault.place()
-    )?;
-    Ok(())
-}
-
-fn layer_name(layer: Layer) -> &'static str {
-    match layer {
-        Layer::Calendar => "calendar",
-        Layer::Metering => "metering",
-        Layer::Sharing => "sharing",
-        Layer::Ledger => "ledger",
-    }
 }

@@ -3,8 +3,8 @@ use crate::answers::{accepted, refused};
 use crate::buyers::of_month;
 use crate::facilities::{CONSUMER, LATE_PLANT, NEW_STORE};
 use crate::records::Month;
-use crate::reports::{NEW_STORE_HOURS, no_test};
-use ledger::Ledger;
+use crate::reports::NEW_STORE_HOURS;
+use ledger::{Ledger, Refusal};
 use metering::{Report, Storage};
 use sharing::Running;
 
@@ -16,7 +16,7 @@ pub fn answer_claims(rt: &HostRuntime, ledger: &mut Ledger, month: Month) -> any
         9 => refused(
             rt,
             "dismissing where nobody claims",
-            20,
+            Refusal::NoClaim.into(),
             ledger.dismiss(CONSUMER),
         ),
         _ => Ok(()),
@@ -26,7 +26,12 @@ pub fn answer_claims(rt: &HostRuntime, ledger: &mut Ledger, month: Month) -> any
 /// The late plant claims, once; the claim is dismissed.
 fn dismiss_in_march(rt: &HostRuntime, ledger: &mut Ledger) -> anyhow::Result<()> {
     accepted(rt, "the late plant's claim", ledger.claim(LATE_PLANT))?;
-    refused(rt, "claiming twice", 19, ledger.claim(LATE_PLANT))?;
+    refused(
+        rt,
+        "claiming twice",
+        Refusal::ClaimedTwice.into(),
+        ledger.claim(LATE_PLANT),
+    )?;
     accepted(rt, "dismissing the claim", ledger.dismiss(LATE_PLANT))?;
     println!(rt; "claim of facility {LATE_PLANT}: dismissed")?;
     Ok(())
@@ -40,13 +45,13 @@ fn uphold_in_july(rt: &HostRuntime, ledger: &mut Ledger, month: Month) -> anyhow
     refused(
         rt,
         "closing before the claim is answered",
-        21,
+        Refusal::ClaimOpen.into(),
         ledger.close(&Running, &mut rows),
     )?;
     let hours = month.records(rt.alloc(), NEW_STORE_HOURS)?;
     let report = Report {
         hours: hours.as_slice(),
-        test: no_test(),
+        test: None,
     };
     accepted(
         rt,

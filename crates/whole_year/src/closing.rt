@@ -1,17 +1,30 @@
 //! The advance and the closing of a month, and the closings that are refused for the buyers' rows.
-ghost use Rattle.std.specs.Prelude.{◌≡◌, ◌%◌};
+ghost use Rattle.std.specs.Prelude.{◌≡◌, ◌%◌, Some};
+ghost use Rattle.whole_year.specs.Rules.{rule_name};
 ghost use Rattle.whole_year.specs.declared.closing.Rule.TheVariants as rule;
 
 use crate::answers::{accepted, refused};
 use crate::buyers::{BUYERS, buyer, of_month};
-use ledger::Ledger;
-use sharing::{Remainder, Row, Running};
+use ledger::{Ledger, Refusal};
+use sharing::{Remainder, Row, Running, SharingFault};
+use std::fmt;
 
 /// A house rule.
 #[derive(Clone, Copy)]
 pub enum Rule {
     Running,
     Remainder,
+}
+
+impl fmt::Display for Rule {
+    ghost output = { λ rule. Some (rule_name rule) };
+
+    fn fmt<W: fmt::Write>(&self, f: &mut fmt::Formatter<W>) -> fmt::Result {
+        f.pad(match self {
+            Rule::Running => "running",
+            Rule::Remainder => "remainder",
+        })
+    }
 }
 
 /// What a closing answered: the month's total, shared by a rule among the buyers.
@@ -63,13 +76,13 @@ fn try_closing(rt: &HostRuntime, ledger: &mut Ledger, month: u32) -> anyhow::Res
         2 => refused(
             rt,
             "closing over buyers that consumed nothing",
-            23,
+            SharingFault::NoWeight.into(),
             ledger.close(&Remainder, &mut idle),
         ),
         5 => refused(
             rt,
             "closing over too many MWh",
-            22,
+            Refusal::RowsOutOfLimits.into(),
             ledger.close(&Running, &mut huge),
         ),
         _ => Ok(()),

@@ -2,7 +2,7 @@
 ghost use Rattle.std.specs.Prelude.{◌≡◌};
 
 use crate::answers::{numbered, refused};
-use ledger::{Ledger, LedgerFault, MOST_MODULES, Module};
+use ledger::{Ledger, LedgerFault, MOST_MODULES, Module, Refusal};
 use metering::{Demand, Kind, Storage, Thermal};
 
 /// A thermal plant of two modules.
@@ -44,7 +44,7 @@ pub fn register_first(rt: &HostRuntime, ledger: &mut Ledger) -> anyhow::Result<(
     refused(
         rt,
         "registering under a small letter",
-        11,
+        Refusal::OutOfLimits.into(),
         enter(ledger, unlettered),
     )?;
     numbered(
@@ -76,7 +76,7 @@ pub fn register_too_late(rt: &HostRuntime, ledger: &mut Ledger) -> anyhow::Resul
     refused(
         rt,
         "registering after the year",
-        6,
+        Refusal::YearOver.into(),
         enter(ledger, new_store()),
     )
 }

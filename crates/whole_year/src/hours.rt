@@ -1,7 +1,7 @@
 //! The stress hours of the year: its runs, the opening that takes them, and the months that they fall into.
 use crate::answers::{accepted, refused};
-use calendar::{Calendar, LEAP_YEAR};
-use ledger::{Ledger, LedgerFault};
+use calendar::{Calendar, CalendarFault, LEAP_YEAR};
+use ledger::Ledger;
 
 /// The months of a year.
 pub const MONTHS: u32 = 12;
@@ -19,7 +19,7 @@ pub fn open(rt: &HostRuntime, ledger: &mut Ledger) -> anyhow::Result<()> {
     refused(
         rt,
         "opening with runs that touch",
-        4,
+        CalendarFault::Run { place: 2 }.into(),
         ledger.open(LEAP_YEAR, &FIRSTS, &TOUCHING),
     )?;
     accepted(rt, "opening", ledger.open(LEAP_YEAR, &FIRSTS, &LENGTHS))
@@ -28,11 +28,11 @@ pub fn open(rt: &HostRuntime, ledger: &mut Ledger) -> anyhow::Result<()> {
 /// The calendar that the year is opened with.
 pub fn planned(rt: &HostRuntime) -> anyhow::Result<Calendar> {
     let mut calendar = Calendar::new();
-    let filled = match calendar.fill(LEAP_YEAR, &FIRSTS, &LENGTHS) {
-        Ok(()) => Ok(()),
-        Err(fault) => Err(LedgerFault::Calendar(fault)),
-    };
-    accepted(rt, "filling the calendar", filled)?;
+    accepted(
+        rt,
+        "filling the calendar",
+        calendar.fill(LEAP_YEAR, &FIRSTS, &LENGTHS),
+    )?;
     Ok(calendar)
 }
 

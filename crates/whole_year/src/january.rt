@@ -6,7 +6,7 @@ use crate::answers::{accepted, numbered};
 use crate::buyers::buyer;
 use crate::print::{print_lines, print_rows};
 use crate::records::{Hours, records};
-use crate::reports::{hand_in, no_test};
+use crate::reports::hand_in;
 use anyhow::anyhow;
 use calendar::COMMON_YEAR;
 use ledger::{Ledger, Line, MOST_MODULES, Module};
@@ -38,10 +38,11 @@ const HOURS: Hours<ThermalHour> = Hours {
 };
 /// How many buyers there are, all equal.
 const BUYERS: usize = 3;
-/// The right that is booked: 50,000 × 24,000 / 120.
-const RIGHT: u64 = 10_000_000;
-/// The penalty that is booked: 1,320,000 kWh of 37,200,000 are missing.
-const PENALTY: u64 = 354_838;
+/// The line that is booked: the right is 50,000 × 24,000 / 120, and 1,320,000 kWh of 37,200,000 are missing.
+const JANUARY: Line = Line {
+    right: 10_000_000,
+    penalty: 354_838,
+};
 /// What the buyers owe together.
 const TOTAL: u64 = 9_645_162;
 /// What each of them pays.
@@ -90,7 +91,7 @@ fn report(rt: &HostRuntime, ledger: &mut Ledger) -> anyhow::Result<()> {
     accepted(
         rt,
         "the report",
-        hand_in::<Thermal>(ledger, FACILITY, hours.as_slice(), no_test()),
+        hand_in::<Thermal>(ledger, FACILITY, hours.as_slice(), None),
     )
 }
 
@@ -101,8 +102,7 @@ fn as_worked(line: Line, total: u64, rows: [Row; BUYERS]) -> bool
     ensures charged { result ≡ true → charges_in rows ≡ 3_215_054 ∷ 3_215_054 ∷ 3_215_054 ∷ [] }
 {
     let [first, second, third] = rows;
-    line.right == RIGHT
-        && line.penalty == PENALTY
+    line == JANUARY
         && total == TOTAL
         && first.charge == CHARGE
         && second.charge == CHARGE

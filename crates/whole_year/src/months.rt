@@ -8,7 +8,7 @@ use crate::print::{print_closed, print_lines, print_totals};
 use crate::records::Month;
 use crate::reports::take_reports;
 use crate::trading::trade;
-use ledger::Ledger;
+use ledger::{Ledger, Line, Refusal};
 
 /// Keeps the whole year, and prints it.
 pub fn keep_year(rt: &HostRuntime) -> anyhow::Result<()> {
@@ -42,11 +42,14 @@ fn keep_month(rt: &HostRuntime, ledger: &mut Ledger, month: Month) -> anyhow::Re
 /// Meets the end of the year: calls are refused, lines are still read.
 fn end_year(rt: &HostRuntime, ledger: &mut Ledger) -> anyhow::Result<()> {
     println!(rt; "After the year")?;
-    refused(rt, "a cut-off after the year", 6, ledger.cut_off())?;
+    refused(
+        rt,
+        "a cut-off after the year",
+        Refusal::YearOver.into(),
+        ledger.cut_off(),
+    )?;
     register_too_late(rt, ledger)?;
-    let line = accepted(rt, "a line of January", ledger.line(1, PLANT))?;
-    let right = line.right;
-    let penalty = line.penalty;
+    let Line { right, penalty } = accepted(rt, "a line of January", ledger.line(1, PLANT))?;
     println!(rt; "the plant's January: right {right}, penalty {penalty}")?;
     print_totals(rt, ledger)
 }

@@ -2,7 +2,7 @@
 ghost use Rattle.std.specs.Prelude.{◌≡◌, ◌+◌, ◌-◌, ◌^◌, min};
 
 use crate::answers::accepted;
-use crate::closing::{Closed, Rule};
+use crate::closing::Closed;
 use journal::audit;
 use ledger::{Ledger, Line};
 use sharing::Row;
@@ -28,11 +28,7 @@ pub fn print_lines(rt: &HostRuntime, ledger: &Ledger, month: u32) -> anyhow::Res
 
 /// Prints a closed month's total with its rule, and what the buyers pay.
 pub fn print_closed(rt: &HostRuntime, closed: &Closed) -> anyhow::Result<()> {
-    let rule = match closed.rule {
-        Rule::Running => "running",
-        Rule::Remainder => "remainder",
-    };
-    println!(rt; "{:>10} {:>12} {:>12}", "closed", closed.total, rule)?;
+    println!(rt; "{:>10} {:>12} {:>12}", "closed", closed.total, closed.rule)?;
     print_rows(rt, &closed.rows)
 }
 

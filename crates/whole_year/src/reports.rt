@@ -4,9 +4,10 @@ ghost use Rattle.std.specs.Prelude.{◌≡◌};
 use crate::answers::{accepted, refused};
 use crate::facilities::{CONSUMER, LATE_PLANT, NEW_STORE, PLANT, STORE};
 use crate::records::{Hours, Month, records};
-use ledger::{Ledger, LedgerFault};
+use ledger::{Ledger, LedgerFault, Refusal};
 use metering::{
-    Demand, DemandHour, Energy, Kind, Report, Storage, StorageHour, Test, Thermal, ThermalHour,
+    Demand, DemandHour, Energy, Kind, MeteringFault, Report, Storage, StorageHour, Test, Thermal,
+    ThermalHour,
 };
 
 /// The month from which on the late plant reports.
@@ -109,7 +110,7 @@ where
     accepted(
         rt,
         "a month's report",
-        hand_in::<K>(ledger, facility, all.as_slice(), no_test()),
+        hand_in::<K>(ledger, facility, all.as_slice(), None),
     )
 }
 
@@ -133,8 +134,8 @@ fn report_in_february(rt: &HostRuntime, ledger: &mut Ledger, month: Month) -> an
     refused(
         rt,
         "half the plant's records",
-        17,
-        hand_in::<Thermal>(ledger, PLANT, half.as_slice(), no_test()),
+        MeteringFault::Records.into(),
+        hand_in::<Thermal>(ledger, PLANT, half.as_slice(), None),
     )
 }
 
@@ -149,7 +150,7 @@ fn report_in_march(rt: &HostRuntime, ledger: &mut Ledger, month: Month) -> anyho
     refused(
         rt,
         "a test that orders nothing",
-        18,
+        MeteringFault::Test { place: Some(2) }.into(),
         hand_in::<Storage>(ledger, STORE, stored.as_slice(), Some(test)),
     )?;
     let consumed = month.records(rt.alloc(), CONSUMER_HOURS)?;
@@ -170,8 +171,8 @@ fn report_in_april(rt: &HostRuntime, ledger: &mut Ledger, month: Month) -> anyho
     refused(
         rt,
         "a consumer's report as a plant",
-        16,
-        hand_in::<Thermal>(ledger, CONSUMER, all.as_slice(), no_test()),
+        Refusal::OtherLetter.into(),
+        hand_in::<Thermal>(ledger, CONSUMER, all.as_slice(), None),
     )
 }
 
@@ -193,9 +194,4 @@ pub fn hand_in<K: Kind>(
     test: Option<Test>,
 ) -> Result<(), LedgerFault> {
     ledger.report::<K>(facility, &Report { hours, test })
-}
-
-/// A report's test where it has none.
-pub fn no_test() -> Option<Test<'static>> {
-    None
 }

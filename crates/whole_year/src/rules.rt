@@ -4,8 +4,7 @@ ghost use Rattle.sharing.specs.Rule.{Shareable};
 
 use crate::answers::accepted;
 use crate::buyers::{buyer, winter};
-use ledger::LedgerFault;
-use sharing::{Remainder, Row, Running, SharingFault, SharingRule};
+use sharing::{Remainder, Row, Running, SharingRule};
 
 /// What the buyers owe together, in cents.
 const MONTH: u64 = 9_645_162;
@@ -33,25 +32,9 @@ fn share_and_print(
     requires running { Shareable total (mwhs running.old) }
     requires remainder { Shareable total (mwhs remainder.old) }
 {
-    accepted(
-        rt,
-        "sharing, running",
-        carried(Running.share(total, running)),
-    )?;
-    accepted(
-        rt,
-        "sharing, remainder",
-        carried(Remainder.share(total, remainder)),
-    )?;
+    accepted(rt, "sharing, running", Running.share(total, running))?;
+    accepted(rt, "sharing, remainder", Remainder.share(total, remainder))?;
     print_charges(rt, running, remainder)
-}
-
-/// A rule's answer, as the ledger hands it on.
-fn carried(answer: Result<(), SharingFault>) -> Result<(), LedgerFault> {
-    match answer {
-        Ok(()) => Ok(()),
-        Err(fault) => Err(LedgerFault::Sharing(fault)),
-    }
 }
 
 /// Prints each buyer's id, MWh and charge by either rule, and what the charges add up to.

@@ -2,10 +2,10 @@
 use crate::answers::{accepted, numbered, refused};
 use crate::buyers::buyer;
 use crate::print::{print_lines, print_rows, print_totals};
-use crate::reports::{hand_in, no_test};
+use crate::reports::hand_in;
 use calendar::COMMON_YEAR;
 use journal::worked_run;
-use ledger::{Ledger, MOST_MODULES, Module};
+use ledger::{Ledger, LedgerFault, MOST_MODULES, Module, Refusal};
 use metering::{Kind, Thermal, ThermalHour};
 use sharing::{Remainder, Row, Running};
 
@@ -56,7 +56,7 @@ fn begin(rt: &HostRuntime, ledger: &mut Ledger) -> anyhow::Result<()> {
 }
 
 /// Registers a thermal facility of one module.
-fn register(ledger: &mut Ledger) -> Result<u32, ledger::LedgerFault> {
+fn register(ledger: &mut Ledger) -> Result<u32, LedgerFault> {
     let mut modules = [Module {
         installed: 0,
         coefficient: 0,
@@ -73,7 +73,7 @@ fn award(rt: &HostRuntime, ledger: &mut Ledger) -> anyhow::Result<()> {
     refused(
         rt,
         "awarding too few kW",
-        11,
+        Refusal::OutOfLimits.into(),
         ledger.award(WINNER, 600, PRICE),
     )?;
     numbered(rt, "awarding", AWARD, ledger.award(WINNER, KW, PRICE))
@@ -105,7 +105,7 @@ fn report(
     accepted(
         rt,
         "the report",
-        hand_in::<Thermal>(ledger, facility, &hours, no_test()),
+        hand_in::<Thermal>(ledger, facility, &hours, None),
     )
 }
 

@@ -3,7 +3,7 @@ use crate::answers::{accepted, numbered, refused};
 use crate::facilities::{
     CONSUMER, LATE_PLANT, NEW_STORE, NEW_STORE_COMES, PLANT, STORE, register_new_store,
 };
-use ledger::Ledger;
+use ledger::{Ledger, Refusal};
 
 /// The plant's first award, of 50,000 kW.
 const BASE: u32 = 1;
@@ -40,7 +40,7 @@ fn trade_in_january(rt: &HostRuntime, ledger: &mut Ledger) -> anyhow::Result<()>
     refused(
         rt,
         "ceding to a consumer that is off",
-        13,
+        Refusal::TakerOff.into(),
         ledger.cede(BASE, PLANT, CONSUMER, 8_001),
     )?;
     accepted(
@@ -72,7 +72,7 @@ fn award_all(rt: &HostRuntime, ledger: &mut Ledger) -> anyhow::Result<()> {
     refused(
         rt,
         "awarding more than firm power",
-        15,
+        Refusal::OverFirm.into(),
         ledger.award(PLANT, 15_001, 24_000),
     )?;
     numbered(
@@ -94,7 +94,7 @@ fn trade_in_april(rt: &HostRuntime, ledger: &mut Ledger) -> anyhow::Result<()> {
     refused(
         rt,
         "ceding more than is held",
-        14,
+        Refusal::HoldsLess.into(),
         ledger.cede(BASE, PLANT, CONSUMER, 50_000),
     )?;
     accepted(

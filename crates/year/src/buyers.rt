@@ -49,13 +49,19 @@ fn share_and_print(
     requires running { Shareable total (mwhs running.old) }
     requires remainder { Shareable total (mwhs remainder.old) }
 {
-    if let Err(fault) = Running.share(total, running) {
-        return print_refusal(rt, fault);
+    match share_both(total, running, remainder) {
+        Ok(()) => print_rows(rt, running, remainder),
+        Err(fault) => Ok(println!(rt; "refused: {fault}")?),
     }
-    if let Err(fault) = Remainder.share(total, remainder) {
-        return print_refusal(rt, fault);
-    }
-    print_rows(rt, running, remainder)
+}
+
+/// Shares the total over each copy of the rows, by the running rule and by the largest remainder.
+fn share_both(total: u64, running: &mut [Row], remainder: &mut [Row]) -> Result<(), SharingFault>
+    requires running { Shareable total (mwhs running.old) }
+    requires remainder { Shareable total (mwhs remainder.old) }
+{
+    Running.share(total, running)?;
+    Remainder.share(total, remainder)
 }
 
 /// Prints each buyer's id, MWh and charge by either rule, and what the charges add up to.
@@ -75,15 +81,5 @@ fn print_rows(rt: &HostRuntime, running: &[Row], remainder: &[Row]) -> anyhow::R
         also = also.saturating_add(other.charge);
     }
     println!(rt; "{:>10} {:>10} {:>12} {:>12}", "all", "", all, also)?;
-    Ok(())
-}
-
-/// Prints a refusal's number, layer and place.
-fn print_refusal(rt: &HostRuntime, fault: SharingFault) -> anyhow::Result<()> {
-    println!(rt;
-        "refused: {}, layer sharing, place {}",
-        fault.number(),
-        fault.place()
-    )?;
     Ok(())
 }

@@ -31,15 +31,11 @@ fn pair(delivered: u32) -> Energy {
 
 /// The records of 744 hours: the full power in 700 of them, and 20,000 kW in the others.
 fn january_hours(heap: Global) -> Result<Vec<ThermalHour>, AllocError> {
-    let mut hours = Vec::new(heap);
-    for hour in 0..744 {
-        let declared = if hour < 700 { COMMITMENT } else { 20_000 };
-        hours.push(ThermalHour {
-            declared,
-            least: 10_000,
-        })?;
-    }
-    Ok(hours)
+    let least = 10_000;
+    (0..744)
+        .map(|hour| if hour < 700 { COMMITMENT } else { 20_000 })
+        .map(|declared| ThermalHour { declared, least })
+        .collect(heap)
 }
 
 /// Measures a thermal facility's January in a year whose stress hours are those of January.
@@ -59,11 +55,7 @@ fn tested(hours: &[ThermalHour], energies: &[Energy]) -> Result<Measured, Meteri
 
 /// The same without a test.
 fn untested(hours: &[ThermalHour]) -> Result<Measured, MeteringFault> {
-    measured(hours, no_test())
-}
-
-fn no_test() -> Option<Test<'static>> {
-    None
+    measured(hours, None)
 }
 
 /// Prints counted hours, and required and credited energy, or the refusal.
@@ -80,13 +72,7 @@ fn print_measured(rt: &HostRuntime, answer: Result<Measured, MeteringFault>) -> 
                 measured.counted, measured.credited
             )?;
         }
-        Err(fault) => {
-            println!(rt;
-                "refused: {}, layer metering, place {}",
-                fault.number(),
-                fault.place()
-            )?;
-        }
+        Err(fault) => println!(rt; "refused: {fault}")?,
     }
     Ok(())
 }

@@ -23,18 +23,14 @@ fn fill_and_print(
     lengths: &[u16],
 ) -> anyhow::Result<()> {
     if let Err(fault) = calendar.fill(year_hours, &FIRSTS, lengths) {
-        println!(rt;
-            "refused: {}, layer calendar, place {}",
-            fault.number(),
-            fault.place()
-        )?;
+        println!(rt; "refused: {fault}")?;
         return Ok(());
     }
     println!(rt;
         "{:>10} {:>10} {:>12}",
         "month", "from hour", "stress hours"
     )?;
-    for month in 1..13 {
+    for month in 1..=12 {
         let begins = calendar.month_begins(month);
         let stress = calendar.stress_hours_in(month);
         println!(rt; "{month:>10} {begins:>10} {stress:>12}")?;

@@ -16,11 +16,7 @@ three (a ∷ b ∷ []) k long p q r = absurd (omega (arith, long))
 three (a ∷ b ∷ c ∷ []) k long p q r = cc
 three (a ∷ b ∷ c ∷ d ∷ rows) k long p q r = absurd (omega (arith, long))
 
-pub returns-then-second-eq-CHARGE : goal.returns-then-second-eq-CHARGE
-returns-then-second-eq-CHARGE c =
+pub returns-then-second-eq-CHARGE-clause-charged : goal.returns-then-second-eq-CHARGE-clause-charged
+returns-then-second-eq-CHARGE-clause-charged c is =
     let tests = c.if-second-eq-CHARGE.true in
-    record {
-      booked = λ _. (tests.0, tests.1);
-      total = λ _. tests.2;
-      charged = λ is. three c.args.rows 3_215_054 (omega arith) tests.3 tests.4 (eqb-true (get_or c.args.rows 2 none).charge 3_215_054 is);
-    }
+    three c.args.rows 3_215_054 (omega arith) tests.2 tests.3 (eqb-true (get_or c.args.rows 2 none).charge 3_215_054 is)
