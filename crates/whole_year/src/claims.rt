@@ -50,7 +50,7 @@ fn uphold_in_july(rt: &HostRuntime, ledger: &mut Ledger, month: Month) -> anyhow
     )?;
     let hours = month.records(rt.alloc(), NEW_STORE_HOURS)?;
     let report = Report {
-        hours: hours.as_slice(),
+        hours: &hours,
         test: None,
     };
     accepted(

@@ -91,7 +91,7 @@ fn report(rt: &HostRuntime, ledger: &mut Ledger) -> anyhow::Result<()> {
     accepted(
         rt,
         "the report",
-        hand_in::<Thermal>(ledger, FACILITY, hours.as_slice(), None),
+        hand_in::<Thermal>(ledger, FACILITY, &hours, None),
     )
 }
 

@@ -110,7 +110,7 @@ where
     accepted(
         rt,
         "a month's report",
-        hand_in::<K>(ledger, facility, all.as_slice(), None),
+        hand_in::<K>(ledger, facility, &all, None),
     )
 }
 
@@ -124,7 +124,7 @@ fn report_in_january(rt: &HostRuntime, ledger: &mut Ledger, month: Month) -> any
     accepted(
         rt,
         "the plant's tested report",
-        hand_in::<Thermal>(ledger, PLANT, all.as_slice(), Some(test)),
+        hand_in::<Thermal>(ledger, PLANT, &all, Some(test)),
     )
 }
 
@@ -135,7 +135,7 @@ fn report_in_february(rt: &HostRuntime, ledger: &mut Ledger, month: Month) -> an
         rt,
         "half the plant's records",
         MeteringFault::Records.into(),
-        hand_in::<Thermal>(ledger, PLANT, half.as_slice(), None),
+        hand_in::<Thermal>(ledger, PLANT, &half, None),
     )
 }
 
@@ -151,7 +151,7 @@ fn report_in_march(rt: &HostRuntime, ledger: &mut Ledger, month: Month) -> anyho
         rt,
         "a test that orders nothing",
         MeteringFault::Test { place: Some(2) }.into(),
-        hand_in::<Storage>(ledger, STORE, stored.as_slice(), Some(test)),
+        hand_in::<Storage>(ledger, STORE, &stored, Some(test)),
     )?;
     let consumed = month.records(rt.alloc(), CONSUMER_HOURS)?;
     let test = Test {
@@ -161,7 +161,7 @@ fn report_in_march(rt: &HostRuntime, ledger: &mut Ledger, month: Month) -> anyho
     accepted(
         rt,
         "the consumer's tested report",
-        hand_in::<Demand>(ledger, CONSUMER, consumed.as_slice(), Some(test)),
+        hand_in::<Demand>(ledger, CONSUMER, &consumed, Some(test)),
     )
 }
 
@@ -172,7 +172,7 @@ fn report_in_april(rt: &HostRuntime, ledger: &mut Ledger, month: Month) -> anyho
         rt,
         "a consumer's report as a plant",
         Refusal::OtherLetter.into(),
-        hand_in::<Thermal>(ledger, CONSUMER, all.as_slice(), None),
+        hand_in::<Thermal>(ledger, CONSUMER, &all, None),
     )
 }
 

@@ -3,7 +3,7 @@ ghost use Rattle.sharing.specs.Rows.{mwhs};
 ghost use Rattle.sharing.specs.Rule.{Shareable};
 
 use crate::answers::accepted;
-use crate::buyers::{buyer, winter};
+use crate::buyers::{WINTER, buyer, buyers};
 use sharing::{Remainder, Row, Running, SharingRule};
 
 /// What the buyers owe together, in cents.
@@ -12,8 +12,8 @@ const MONTH: u64 = 9_645_162;
 /// Prints a month's total by both rules over the buyers of the winter, and 100 cents over three equal buyers.
 pub fn print_both(rt: &HostRuntime) -> anyhow::Result<()> {
     println!(rt; "{MONTH} cents over the buyers of a winter month")?;
-    let mut running = winter();
-    let mut remainder = winter();
+    let mut running = buyers(WINTER);
+    let mut remainder = buyers(WINTER);
     share_and_print(rt, MONTH, &mut running, &mut remainder)?;
     println!(rt; "100 cents over three equal buyers")?;
     let equal = [buyer(1, 1), buyer(2, 1), buyer(3, 1)];

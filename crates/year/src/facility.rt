@@ -11,14 +11,11 @@ const COMMITMENT: u32 = 50_000;
 pub fn print_january(rt: &HostRuntime) -> anyhow::Result<()> {
     let hours = january_hours(rt.alloc())?;
     println!(rt; "A thermal facility's January under {COMMITMENT} kW")?;
-    print_measured(rt, untested(hours.as_slice()))?;
+    print_measured(rt, measured(&hours, None))?;
     println!(rt; "The same with a test of which one hour fails")?;
-    print_measured(
-        rt,
-        tested(hours.as_slice(), &[pair(951), pair(950), pair(1_000)]),
-    )?;
+    print_measured(rt, tested(&hours, &[pair(951), pair(950), pair(1_000)]))?;
     println!(rt; "The same with a test of two hours")?;
-    print_measured(rt, tested(hours.as_slice(), &[pair(951), pair(950)]))
+    print_measured(rt, tested(&hours, &[pair(951), pair(950)]))
 }
 
 /// A test hour for which 1,000 kWh were ordered.
@@ -51,11 +48,6 @@ fn tested(hours: &[ThermalHour], energies: &[Energy]) -> Result<Measured, Meteri
         hours: energies,
     };
     measured(hours, Some(test))
-}
-
-/// The same without a test.
-fn untested(hours: &[ThermalHour]) -> Result<Measured, MeteringFault> {
-    measured(hours, None)
 }
 
 /// Prints counted hours, and required and credited energy, or the refusal.
