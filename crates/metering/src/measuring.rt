@@ -1,5 +1,5 @@
 //! What a report comes to: counted hours and credited energy.
-ghost use Rattle.std.specs.Prelude.{◌≡◌, ◌+◌, ◌*◌, ◌<◌, ◌≤◌, true, false, length, MatchOption, slice_index_or};
+ghost use Rattle.std.specs.Prelude.{◌≡◌, ◌+◌, ◌*◌, ◌<◌, ◌≤◌, true, false, length, MatchOption, option_map, slice_get};
 ghost use Rattle.calendar.specs.Stress.{stress_hours};
 ghost use Rattle.metering.specs.Testing.{failed_in};
 ghost use Rattle.metering.specs.Measuring.{credited_energy, failed_outside, counting_with, measuring};
@@ -87,13 +87,13 @@ fn credited<K: Kind>(
     records: &[K::Hour],
     test: &Option<Test>,
 ) -> u64
-    requires { length records.now ≡ length (stress_hours calendar.now month) }
+    requires one_each { length records.now ≡ length (stress_hours calendar.now month) }
+    requires few { length records.now ≤ 8784 }
     ensures { result ≡ credited_energy K.credit commitment (failed_in test.now) (stress_hours calendar.now month) records.now }
 {
-    let mut sum: u64 = 0;
+    let mut sum = 0;
     for (i, hour) in calendar.stress_hours(month).enumerate() {
-        let record = record_at(records, i);
-        let Some(kw) = hour_credit::<K>(test, hour, record, commitment) else {
+        let Some(kw) = hour_credit::<K>(test, hour, records, i, commitment) else {
             continue;
         };
         sum += u64::from(kw);
@@ -101,26 +101,20 @@ fn credited<K: Kind>(
     sum
 }
 
-/// The record at an index: that of the stress hour which has so many before it in the month.
-fn record_at<H>(records: &[H], i: usize) -> &H
-    requires { i < length records.now }
-    ensures { result.now ≡ slice_index_or records.now i result.now }
-{
-    &records[i]
-}
-
-/// The credit of an hour by its record; none where the hour failed in the test.
+/// The credit of an hour by the record at an index; none where the hour failed in the test.
 fn hour_credit<K: Kind>(
     test: &Option<Test>,
     hour: u32,
-    reading: &K::Hour,
+    records: &[K::Hour],
+    i: usize,
     commitment: u32,
 ) -> Option<u32>
+    requires { i < length records.now }
     ensures { MatchOption result (failed_in test.now hour ≡ true)
-        (λ kw. (failed_in test.now hour ≡ false) × (kw ≡ K.credit reading.now commitment)) }
+        (λ kw. (failed_in test.now hour ≡ false) × (option_map (λ h. K.credit h commitment) (slice_get records.now i) ≡ Some kw)) }
 {
     if failed_in(test, hour) {
         return None;
     }
-    Some(K::credit(reading, commitment))
+    Some(K::credit(&records[i], commitment))
 }
