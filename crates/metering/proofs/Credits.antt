@@ -1,15 +1,10 @@
 -- What the hours that are still to come are credited, taken hour by hour. Assumes nothing.
-use Rattle.std.proofs.Common.{◌≡◌, ℕ, ◌+◌, ◌<◌, Bool, true, false, cond, not, List, ◌∷◌, length, drop, Some, inl, inr, slice_get, option_map, sum_by, filter, ap, ◌∙◌, arith}
+use Rattle.std.proofs.Common.{◌≡◌, ℕ, ◌+◌, ◌<◌, Bool, true, false, not, List, ◌∷◌, length, drop, Some, inl, inr, slice_get, option_map, filter, ap, ◌∙◌, arith}
 use Rattle.std.specs.List.{zip}
 use Rattle.std.proofs.lemmas.List.{drop_more}
 use Rattle.std.proofs.lemmas.List.Sums.{sum_by-cons}
 use Rattle.std.proofs.lemmas.Option.{slice_get_cases}
 use Rattle.metering.specs.Measuring.{credited_energy}
-
--- a sum with one element more, unless it is left out
-sum_by-kept : {X : Type 0} (f : X → ℕ) (b : Bool) (x : X) (xs : List X) → sum_by f (cond (not b) (x ∷ xs) xs) ≡ cond b 0 (f x) + sum_by f xs
-sum_by-kept f true x xs = omega arith
-sum_by-kept f false x xs = sum_by-cons f x xs
 
 -- the record at an index stands first among those from there on
 first_from : {H : Type 0} (records : List H) (i : ℕ) → i < length records → (x : H) × (slice_get records i ≡ Some x) × (drop i records ≡ x ∷ drop (i + 1) records)
