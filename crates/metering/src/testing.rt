@@ -69,8 +69,7 @@ impl Test<'_> {
     fn lasts<K: Kind>(&self) -> bool
         ensures { result ≡ (nat_le K.shortest (length self.now.hours.now) && nat_le (length self.now.hours.now) K.longest) }
     {
-        let hours = self.hours.len() as u64;
-        u64::from(K::shortest_test()) <= hours && hours <= u64::from(K::longest_test())
+        (K::shortest_test() as usize..=K::longest_test() as usize).contains(&self.hours.len())
     }
 
     /// Whether the test lies in a month of these hours.
@@ -86,7 +85,7 @@ impl Test<'_> {
 pub(crate) fn failed_in(test: &Option<Test>, hour: u32) -> bool
     ensures { result ≡ failed_in test.now hour }
 {
-    test.as_ref().is_some_and(|test| test.failed_at(hour))
+    test.is_some_and(|test| test.failed_at(hour))
 }
 
 /// The place of what stands at an index; one beyond 32 bits is given as the largest number of 32 bits.
