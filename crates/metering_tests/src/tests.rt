@@ -191,6 +191,27 @@ fn credits_of_the_kinds(rt: HostRuntime) -> Result<(), Fail> {
 }
 
 #[test]
+fn each_hour_is_credited_by_its_own_record(rt: HostRuntime) -> Result<(), Fail> {
+    let mut hours = [ThermalHour {
+        declared: 0,
+        least: 0,
+    }; 744];
+    hours[0].declared = 100;
+    hours[1].declared = 200;
+    hours[743].declared = 300;
+    // 100 + 200 + 300
+    comes_to(&rt, january::<Thermal>(1_000, &hours), 744, 600)?;
+    // The second hour failed: 100 + 300.
+    let test = Some(Test {
+        first: 0,
+        hours: &[GOOD, FAILED, GOOD],
+    });
+    comes_to(&rt, month::<Thermal>(1, 1_000, &hours, test), 744, 400)?;
+    // The same under 250 kW: 100 + 250.
+    comes_to(&rt, month::<Thermal>(1, 250, &hours, test), 744, 350)
+}
+
+#[test]
 fn refusals(rt: HostRuntime) -> Result<(), Fail> {
     let good = Some(Test {
         first: 0,
