@@ -44,12 +44,8 @@ impl fmt::Display for MeteringFault {
     ghost output = { λ fault. Some (text fault) };
 
     fn fmt<W: fmt::Write>(&self, f: &mut fmt::Formatter<W>) -> fmt::Result {
-        write!(
-            f,
-            "{}, layer metering, place {}",
-            self.number(),
-            self.place()
-        )
+        let (number, place) = (self.number(), self.place());
+        write!(f, "{number}, layer metering, place {place}")
     }
 }
 

@@ -192,9 +192,6 @@ impl Kind for Demand {
     }
 
     fn credit(hour: &DemandHour, commitment: u32) -> u32 {
-        if hour.consumption <= hour.residual {
-            return 0;
-        }
-        commitment.min(hour.consumption - hour.residual)
+        commitment.min(hour.consumption.saturating_sub(hour.residual))
     }
 }

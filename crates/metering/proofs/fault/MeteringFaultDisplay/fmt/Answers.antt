@@ -1,4 +1,4 @@
 use Rattle.metering.proofs.fault.MeteringFaultDisplay.fmt.Goals as goal
 
 pub returns-clause-writes : goal.returns-clause-writes
-returns-clause-writes g c = rw (c.number.ensures, c.place.ensures) at c.write.ensures.writes
+returns-clause-writes g c = rw (c.number-number.ensures, c.place-place.ensures) at c.write.ensures.writes
