@@ -1,5 +1,5 @@
 -- What the hours that are still to come are credited, taken hour by hour. Assumes nothing.
-use Rattle.std.proofs.Common.{◌≡◌, ℕ, ◌+◌, ◌<◌, Bool, true, false, not, List, ◌∷◌, length, drop, Some, inl, inr, slice_get, option_map, filter, ap, ◌∙◌, arith}
+use Rattle.std.proofs.Common.{◌≡◌, ℕ, ◌+◌, ◌<◌, Bool, true, false, not, List, ◌∷◌, length, drop, Some, inl, inr, slice_get, option_map, filter, arith}
 use Rattle.std.specs.List.{zip}
 use Rattle.std.proofs.lemmas.List.{drop_more}
 use Rattle.std.proofs.lemmas.List.Sums.{sum_by-cons}
@@ -24,5 +24,5 @@ module _ {H : Type 0} (credit : H → ℕ → ℕ) (k : ℕ) (fails : ℕ → Bo
   pub credited_energy-passed : (kw : ℕ) → fails h ≡ false → option_map (λ x. credit x k) (slice_get records i) ≡ Some kw → credited_energy credit k fails (h ∷ hours) (drop i records) ≡ kw + credited_energy credit k fails hours (drop (i + 1) records)
   credited_energy-passed kw passed is =
       let at = first_from records i inside in
-      let worth : credit at.0 k ≡ kw = let h = rw at.1 at is in cc in
-      rw (at.2, passed) (sum_by-cons (λ p. credit p.1 k) (h, at.0) (filter (λ p. not (fails p.0)) (zip hours (drop (i + 1) records))) ∙ ap (λ n. n + credited_energy credit k fails hours (drop (i + 1) records)) worth)
+      let worth : credit at.0 k ≡ kw = let both = rw at.1 at is in cc in
+      rw (at.2, passed) (omega (arith, worth, sum_by-cons (λ p. credit p.1 k) (h, at.0) (filter (λ p. not (fails p.0)) (zip hours (drop (i + 1) records)))))
