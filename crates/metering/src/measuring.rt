@@ -75,7 +75,7 @@ fn failed_outside(calendar: &Calendar, test: &Test) -> u32
     ensures bound { result ≤ 8784 }
 {
     (test.first..test.first + test.hours.len() as u32)
-        .filter(|hour| test.failed_at(*hour) && !calendar.is_stress(*hour))
+        .filter(|&hour| test.failed_at(hour) && !calendar.is_stress(hour))
         .count() as u32
 }
 
