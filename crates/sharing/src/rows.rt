@@ -1,5 +1,5 @@
 //! A buyer's row, and what the rows of a month add up to.
-ghost use Rattle.std.specs.Prelude.{◌≡◌, ◌-◌, ◌^◌, min, sum};
+ghost use Rattle.std.specs.Prelude.{◌≡◌, ◌+◌, ◌-◌, ◌^◌, min, sum};
 ghost use Rattle.sharing.specs.Rows.{mwhs};
 
 /// One buyer in one month: the MWh consumed, and the cents charged for them.
@@ -14,6 +14,12 @@ pub struct Row {
 pub fn total_mwh(rows: &[Row]) -> u64
     ensures { result ≡ min (sum (mwhs rows.now)) (2 ^ 64 - 1) }
 {
-    rows.iter()
-        .fold(0, |all: u64, row| all.saturating_add(u64::from(row.mwh)))
+    rows.iter().fold(0, with_row)
+}
+
+/// The MWh so far, with one row more.
+fn with_row(all: u64, row: &Row) -> u64
+    ensures { result ≡ min (all + row.now.mwh) (2 ^ 64 - 1) }
+{
+    all.saturating_add(u64::from(row.mwh))
 }
