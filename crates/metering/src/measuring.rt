@@ -64,7 +64,7 @@ fn counted<K: Kind>(
     let Some(test) = test else {
         return Ok(stress);
     };
-    test.check::<K>(calendar.month_begins(month)..calendar.month_ends(month))?;
+    test.check::<K>(calendar.month_hours(month))?;
     Ok(stress + failed_outside(calendar, test))
 }
 

@@ -32,6 +32,7 @@ impl Calendar {
     pub fn month_hours(&self, month: u32) -> Range<u32>
         ensures begins { result.start ≡ month_begins self.now.year_hours month }
         ensures ends { result.end ≡ month_ends self.now.year_hours month }
+        ensures bound { result.end ≤ self.now.year_hours }
     {
         self.month_begins(month)..self.month_ends(month)
     }
