@@ -15,25 +15,34 @@ pub trait Kind {
     /// The most hours of a test.
     const LONGEST: u32;
 
-    ghost letter: { ℕ };
+    ghost LETTER: { ℕ };
 
-    ghost shortest: { ℕ };
+    ghost SHORTEST: { ℕ };
 
-    ghost longest: { ℕ };
+    ghost LONGEST: { ℕ };
 
     ghost credit: { Self.Hour → ℕ → ℕ };
 
-    /// `LETTER`, for generic code.
+    /// The kind's letter.
     fn kind_letter() -> u8
-        ensures { result ≡ letter };
+        ensures { result ≡ LETTER }
+    {
+        Self::LETTER
+    }
 
-    /// `SHORTEST`, for generic code.
+    /// The fewest hours of a test.
     fn shortest_test() -> u32
-        ensures { result ≡ shortest };
+        ensures { result ≡ SHORTEST }
+    {
+        Self::SHORTEST
+    }
 
-    /// `LONGEST`, for generic code.
+    /// The most hours of a test.
     fn longest_test() -> u32
-        ensures { result ≡ longest };
+        ensures { result ≡ LONGEST }
+    {
+        Self::LONGEST
+    }
 
     /// How many kW the record of one hour is worth, given the facility's commitment.
     fn credit(hour: &Self::Hour, commitment: u32) -> u32
@@ -43,7 +52,7 @@ pub trait Kind {
     ghost bounded: { (hour : Self.Hour) (commitment : ℕ) → credit hour commitment ≤ commitment };
 
     /// A test has an hour.
-    ghost lasting: { (1 ≤ shortest) × (1 ≤ longest) };
+    ghost lasting: { (1 ≤ SHORTEST) × (1 ≤ LONGEST) };
 }
 
 /// A thermal facility, which runs at its least stable power or above, or not at all.
@@ -66,29 +75,17 @@ impl Kind for Thermal {
 
     const LONGEST: u32 = 24;
 
-    ghost letter = { 84 };
+    ghost LETTER = { 84 };
 
-    ghost shortest = { 3 };
+    ghost SHORTEST = { 3 };
 
-    ghost longest = { 24 };
+    ghost LONGEST = { 24 };
 
     ghost credit = { thermal_credit };
 
     ghost bounded = { Prim.search rules };
 
     ghost lasting = { Prim.search rules };
-
-    fn kind_letter() -> u8 {
-        Self::LETTER
-    }
-
-    fn shortest_test() -> u32 {
-        Self::SHORTEST
-    }
-
-    fn longest_test() -> u32 {
-        Self::LONGEST
-    }
 
     fn credit(hour: &ThermalHour, commitment: u32) -> u32 {
         if hour.declared < hour.least {
@@ -118,29 +115,17 @@ impl Kind for Storage {
 
     const LONGEST: u32 = 1;
 
-    ghost letter = { 83 };
+    ghost LETTER = { 83 };
 
-    ghost shortest = { 1 };
+    ghost SHORTEST = { 1 };
 
-    ghost longest = { 1 };
+    ghost LONGEST = { 1 };
 
     ghost credit = { storage_credit };
 
     ghost bounded = { Prim.search rules };
 
     ghost lasting = { Prim.search rules };
-
-    fn kind_letter() -> u8 {
-        Self::LETTER
-    }
-
-    fn shortest_test() -> u32 {
-        Self::SHORTEST
-    }
-
-    fn longest_test() -> u32 {
-        Self::LONGEST
-    }
 
     fn credit(hour: &StorageHour, commitment: u32) -> u32 {
         commitment.min(hour.power).min(hour.stored)
@@ -167,29 +152,17 @@ impl Kind for Demand {
 
     const LONGEST: u32 = 3;
 
-    ghost letter = { 68 };
+    ghost LETTER = { 68 };
 
-    ghost shortest = { 1 };
+    ghost SHORTEST = { 1 };
 
-    ghost longest = { 3 };
+    ghost LONGEST = { 3 };
 
     ghost credit = { demand_credit };
 
     ghost bounded = { Prim.search rules };
 
     ghost lasting = { Prim.search rules };
-
-    fn kind_letter() -> u8 {
-        Self::LETTER
-    }
-
-    fn shortest_test() -> u32 {
-        Self::SHORTEST
-    }
-
-    fn longest_test() -> u32 {
-        Self::LONGEST
-    }
 
     fn credit(hour: &DemandHour, commitment: u32) -> u32 {
         commitment.min(hour.consumption.saturating_sub(hour.residual))

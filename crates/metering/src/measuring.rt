@@ -31,7 +31,7 @@ pub fn measure<K: Kind>(
     commitment: u32,
     report: &Report<K>,
 ) -> Result<Measured, MeteringFault>
-    ensures { result ≡ measuring K.shortest K.longest K.credit calendar.now month commitment report.now.hours.now report.now.test }
+    ensures { result ≡ measuring K.SHORTEST K.LONGEST K.credit calendar.now month commitment report.now.hours.now report.now.test }
 {
     if report.hours.len() != calendar.stress_hours_in(month) as usize {
         return Err(MeteringFault::Records);
@@ -58,7 +58,7 @@ fn counted<K: Kind>(
     month: u32,
     test: &Option<Test>,
 ) -> Result<u32, MeteringFault>
-    ensures { result ≡ counting_with K.shortest K.longest calendar.now month test.now }
+    ensures { result ≡ counting_with K.SHORTEST K.LONGEST calendar.now month test.now }
 {
     let stress = calendar.stress_hours_in(month);
     let Some(test) = test else {

@@ -31,7 +31,7 @@ impl Energy {
 impl Test<'_> {
     /// Refuses a test that is not in order for the kind, in a month of these hours.
     pub(crate) fn check<K: Kind>(&self, month: Range<u32>) -> Result<(), MeteringFault>
-        ensures { result ≡ (if in_order K.shortest K.longest month.start month.end self.now.first self.now.hours.now then Ok tt else Err (fault.Test (wrong_place self.now.hours.now))) }
+        ensures { result ≡ (if in_order K.SHORTEST K.LONGEST month.start month.end self.now.first self.now.hours.now then Ok tt else Err (fault.Test (wrong_place self.now.hours.now))) }
     {
         let place = self.wrong_place();
         if place.is_none() && self.lasts::<K>() && self.lies_in(month) {
@@ -67,9 +67,9 @@ impl Test<'_> {
 
     /// Whether the test is as long as the kind wants it.
     fn lasts<K: Kind>(&self) -> bool
-        ensures { result ≡ (nat_le K.shortest (length self.now.hours.now) && nat_le (length self.now.hours.now) K.longest) }
+        ensures { result ≡ (nat_le K.SHORTEST (length self.now.hours.now) && nat_le (length self.now.hours.now) K.LONGEST) }
     {
-        (K::shortest_test() as usize..=K::longest_test() as usize).contains(&self.hours.len())
+        (K::SHORTEST as usize..=K::LONGEST as usize).contains(&self.hours.len())
     }
 
     /// Whether the test lies in a month of these hours.

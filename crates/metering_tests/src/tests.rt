@@ -28,29 +28,17 @@ impl Kind for Wind {
 
     const LONGEST: u32 = 2;
 
-    ghost letter = { 87 };
+    ghost LETTER = { 87 };
 
-    ghost shortest = { 2 };
+    ghost SHORTEST = { 2 };
 
-    ghost longest = { 2 };
+    ghost LONGEST = { 2 };
 
     ghost credit = { λ hour commitment. min commitment (hour.forecast / 10) };
 
     ghost bounded = { Prim.search rules };
 
     ghost lasting = { Prim.search rules };
-
-    fn kind_letter() -> u8 {
-        Self::LETTER
-    }
-
-    fn shortest_test() -> u32 {
-        Self::SHORTEST
-    }
-
-    fn longest_test() -> u32 {
-        Self::LONGEST
-    }
 
     fn credit(hour: &WindHour, commitment: u32) -> u32 {
         commitment.min(hour.forecast / 10)
@@ -68,14 +56,9 @@ fn month<K: Kind>(
     measure::<K>(&Calendar::new(), month, commitment, &report)
 }
 
-/// No test.
-fn untested() -> Option<Test<'static>> {
-    None
-}
-
 /// Measures a January's report of these records, without a test.
 fn january<K: Kind>(commitment: u32, hours: &[K::Hour]) -> Result<Measured, MeteringFault> {
-    month::<K>(1, commitment, hours, untested())
+    month::<K>(1, commitment, hours, None)
 }
 
 /// Whether the month came to these counted hours and this credited energy.
@@ -85,14 +68,8 @@ fn comes_to(
     counted: u32,
     credited: u64,
 ) -> Result<(), Fail> {
-    match answer {
-        Ok(measured) => {
-            assert_eq!(rt; measured.counted, counted);
-            assert_eq!(rt; measured.credited, credited);
-            Ok(())
-        }
-        Err(fault) => Err(Fail::new("refused")),
-    }
+    assert_eq!(rt; answer, Ok(Measured { counted, credited }));
+    Ok(())
 }
 
 /// Whether the month was refused by this number at this place.
@@ -145,7 +122,7 @@ fn a_failed_stress_hour_counts_once_and_credits_nothing(rt: HostRuntime) -> Resu
 
 #[test]
 fn a_failed_hour_that_is_no_stress_hour_adds_one(rt: HostRuntime) -> Result<(), Fail> {
-    comes_to(&rt, month::<Demand>(2, 1_000, &IDLE, untested()), 0, 0)?;
+    comes_to(&rt, month::<Demand>(2, 1_000, &IDLE, None), 0, 0)?;
     let test = Some(Test {
         first: 744,
         hours: &[FAILED, GOOD, FAILED],

@@ -36,12 +36,9 @@ fn by_sorting(heap: Global, total: u64, rows: &[Row]) -> Result<Vec<u64>, AllocE
         })?;
     }
     claims.sort()?;
-    for claim in claims.iter() {
-        if left > 0 {
-            left -= 1;
-            if let Some(cents) = charges.get_mut(claim.row) {
-                *cents = cents.saturating_add(1);
-            }
+    for claim in claims.iter().take(left as usize) {
+        if let Some(cents) = charges.get_mut(claim.row) {
+            *cents = cents.saturating_add(1);
         }
     }
     Ok(charges)
@@ -49,24 +46,15 @@ fn by_sorting(heap: Global, total: u64, rows: &[Row]) -> Result<Vec<u64>, AllocE
 
 /// Rows of these MWh, with an old charge on each.
 fn rows_of(heap: Global, mwhs: &[u32]) -> Result<Vec<Row>, AllocError> {
-    let mut rows = Vec::new(heap);
-    for mwh in mwhs {
-        rows.push(Row {
-            id: 7,
-            mwh: *mwh,
-            charge: 99,
-        })?;
-    }
-    Ok(rows)
+    let (id, charge) = (7, 99);
+    mwhs.iter()
+        .map(|&mwh| Row { id, mwh, charge })
+        .collect(heap)
 }
 
 /// What the rows are charged.
 fn charges_of(heap: Global, rows: &[Row]) -> Result<Vec<u64>, AllocError> {
-    let mut charges = Vec::new(heap);
-    for row in rows {
-        charges.push(row.charge)?;
-    }
-    Ok(charges)
+    rows.iter().map(|row| row.charge).collect(heap)
 }
 
 /// Shares by the rule, where the limits are kept; whether the rule did not refuse.
@@ -86,14 +74,14 @@ fn shared<R: SharingRule>(
     mwhs: &[u32],
 ) -> Result<Vec<u64>, Fail> {
     let mut rows = rows_of(heap, mwhs)?;
-    assert!(rt; share_within(rule, total, rows.as_mut_slice())?);
-    Ok(charges_of(heap, rows.as_slice())?)
+    assert!(rt; share_within(rule, total, &mut rows)?);
+    Ok(charges_of(heap, &rows)?)
 }
 
 /// Checks the rule of the largest remainder against the sorted claims.
 fn agrees(rt: &impl Abort, heap: Global, total: u64, mwhs: &[u32]) -> Result<(), Fail> {
     let rows = rows_of(heap, mwhs)?;
-    let expected = by_sorting(heap, total, rows.as_slice())?;
+    let expected = by_sorting(heap, total, &rows)?;
     assert_eq!(rt; shared(rt, heap, &Remainder, total, mwhs)?, expected);
     Ok(())
 }
@@ -146,9 +134,9 @@ fn short_lists(rt: HostRuntime) -> Result<(), Fail> {
 #[test]
 fn nothing_to_share_by(rt: HostRuntime) -> Result<(), Fail> {
     let mut rows = rows_of(rt.alloc(), &[0, 0])?;
-    assert!(rt; !share_within(&Remainder, 1, rows.as_mut_slice())?);
+    assert!(rt; !share_within(&Remainder, 1, &mut rows)?);
     assert_eq!(rt;
-        charges_of(rt.alloc(), rows.as_slice())?,
+        charges_of(rt.alloc(), &rows)?,
         vec![in rt.alloc(); 99, 99]?
     );
     Ok(())
@@ -157,12 +145,9 @@ fn nothing_to_share_by(rt: HostRuntime) -> Result<(), Fail> {
 #[test]
 fn long_lists(rt: HostRuntime) -> Result<(), Fail> {
     let heap = rt.alloc();
-    agrees(&rt, heap, 1_000_003, vec![in heap; 3; 1_024]?.as_slice())?;
+    agrees(&rt, heap, 1_000_003, &[3; 1_024])?;
     let most = most_rows(heap)?;
-    assert_eq!(rt;
-        total_mwh(rows_of(heap, most.as_slice())?.as_slice()),
-        40_000_000
-    );
-    agrees(&rt, heap, 29_999_999_999, most.as_slice())?;
-    agrees(&rt, heap, 30_000_000_000, most.as_slice())
+    assert_eq!(rt; total_mwh(&rows_of(heap, &most)?), 40_000_000);
+    agrees(&rt, heap, 29_999_999_999, &most)?;
+    agrees(&rt, heap, 30_000_000_000, &most)
 }
