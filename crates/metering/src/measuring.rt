@@ -4,7 +4,6 @@ ghost use Rattle.calendar.specs.Stress.{stress_hours};
 ghost use Rattle.metering.specs.Testing.{failed_in};
 ghost use Rattle.metering.specs.Measuring.{credited_energy, failed_outside, counting_with, measuring};
 
-use crate::testing::failed_in;
 use crate::{Kind, MeteringFault, Report, Test};
 use calendar::Calendar;
 
@@ -36,8 +35,8 @@ pub fn measure<K: Kind>(
     if report.hours.len() != calendar.stress_hours_in(month) as usize {
         return Err(MeteringFault::Records);
     }
-    let counted = counted::<K>(calendar, month, &report.test)?;
-    let credited = credited::<K>(calendar, month, commitment, report.hours, &report.test);
+    let counted = report.counted(calendar, month)?;
+    let credited = report.credited(calendar, month, commitment);
     Ok(Measured { counted, credited })
 }
 
@@ -52,20 +51,53 @@ pub fn unreported(calendar: &Calendar, month: u32) -> Measured
     }
 }
 
-/// How many hours count with this test, or none; refused where the test is not in order.
-fn counted<K: Kind>(
-    calendar: &Calendar,
-    month: u32,
-    test: &Option<Test>,
-) -> Result<u32, MeteringFault>
-    ensures { result ≡ counting_with K.SHORTEST K.LONGEST calendar.now month test.now }
-{
-    let stress = calendar.stress_hours_in(month);
-    let Some(test) = test else {
-        return Ok(stress);
-    };
-    test.check::<K>(calendar.month_hours(month))?;
-    Ok(stress + failed_outside(calendar, test))
+impl<K: Kind> Report<'_, '_, K> {
+    /// How many hours count in the month; refused where the test is not in order.
+    fn counted(&self, calendar: &Calendar, month: u32) -> Result<u32, MeteringFault>
+        ensures { result ≡ counting_with K.SHORTEST K.LONGEST calendar.now month self.now.test }
+    {
+        let stress = calendar.stress_hours_in(month);
+        let Some(test) = &self.test else {
+            return Ok(stress);
+        };
+        test.check::<K>(calendar.month_hours(month))?;
+        Ok(stress + failed_outside(calendar, test))
+    }
+
+    /// The energy credited under a commitment in the stress hours of the month, by their records.
+    fn credited(&self, calendar: &Calendar, month: u32, commitment: u32) -> u64
+        requires one_each { length self.now.hours.now ≡ length (stress_hours calendar.now month) }
+        requires few { length self.now.hours.now ≤ 8784 }
+        ensures { result ≡ credited_energy K.credit commitment (failed_in self.now.test) (stress_hours calendar.now month) self.now.hours.now }
+    {
+        let mut sum = 0;
+        for (i, hour) in calendar.stress_hours(month).enumerate() {
+            let Some(kw) = self.hour_credit(hour, i, commitment) else {
+                continue;
+            };
+            sum += u64::from(kw);
+        }
+        sum
+    }
+
+    /// The credit of an hour by the record at an index; none where the hour failed in the test.
+    fn hour_credit(&self, hour: u32, i: usize, commitment: u32) -> Option<u32>
+        requires { i < length self.now.hours.now }
+        ensures { MatchOption result (failed_in self.now.test hour ≡ true)
+            (λ kw. (failed_in self.now.test hour ≡ false) × (option_map (λ h. K.credit h commitment) (slice_get self.now.hours.now i) ≡ Some kw)) }
+    {
+        if self.failed_in(hour) {
+            return None;
+        }
+        Some(K::credit(&self.hours[i], commitment))
+    }
+
+    /// Whether this hour of the year is a failed hour of the test, if there is one.
+    fn failed_in(&self, hour: u32) -> bool
+        ensures { result ≡ failed_in self.now.test hour }
+    {
+        self.test.is_some_and(|test| test.failed_at(hour))
+    }
 }
 
 /// How many hours of a test failed and are no stress hours.
@@ -77,44 +109,4 @@ fn failed_outside(calendar: &Calendar, test: &Test) -> u32
     (test.first..test.first + test.hours.len() as u32)
         .filter(|&hour| test.failed_at(hour) && !calendar.is_stress(hour))
         .count() as u32
-}
-
-/// The energy credited under a commitment in the stress hours of a month, by their records.
-fn credited<K: Kind>(
-    calendar: &Calendar,
-    month: u32,
-    commitment: u32,
-    records: &[K::Hour],
-    test: &Option<Test>,
-) -> u64
-    requires one_each { length records.now ≡ length (stress_hours calendar.now month) }
-    requires few { length records.now ≤ 8784 }
-    ensures { result ≡ credited_energy K.credit commitment (failed_in test.now) (stress_hours calendar.now month) records.now }
-{
-    let mut sum = 0;
-    for (i, hour) in calendar.stress_hours(month).enumerate() {
-        let Some(kw) = hour_credit::<K>(test, hour, records, i, commitment) else {
-            continue;
-        };
-        sum += u64::from(kw);
-    }
-    sum
-}
-
-/// The credit of an hour by the record at an index; none where the hour failed in the test.
-fn hour_credit<K: Kind>(
-    test: &Option<Test>,
-    hour: u32,
-    records: &[K::Hour],
-    i: usize,
-    commitment: u32,
-) -> Option<u32>
-    requires { i < length records.now }
-    ensures { MatchOption result (failed_in test.now hour ≡ true)
-        (λ kw. (failed_in test.now hour ≡ false) × (option_map (λ h. K.credit h commitment) (slice_get records.now i) ≡ Some kw)) }
-{
-    if failed_in(test, hour) {
-        return None;
-    }
-    Some(K::credit(&records[i], commitment))
 }

@@ -1,6 +1,6 @@
 //! Tests: which of their hours failed, and when a test is in order.
 ghost use Rattle.std.specs.Prelude.{◌≡◌, ◌+◌, ◌-◌, ◌^◌, min, not, ◌&&◌, length, position, if◌then◌else◌, Ok, Err, nat_le};
-ghost use Rattle.metering.specs.Testing.{failed, failed_at, failed_in, right_order, wrong_place, in_order};
+ghost use Rattle.metering.specs.Testing.{failed, failed_at, right_order, wrong_place, in_order};
 ghost use Rattle.metering.specs.declared.fault.MeteringFault.TheVariants as fault;
 
 use crate::{Energy, Kind, MeteringFault, Test};
@@ -79,13 +79,6 @@ impl Test<'_> {
         let after = u64::from(self.first).saturating_add(self.hours.len() as u64);
         month.start <= self.first && after <= u64::from(month.end)
     }
-}
-
-/// Whether this hour of the year is a failed hour of the test, if there is one.
-pub(crate) fn failed_in(test: &Option<Test>, hour: u32) -> bool
-    ensures { result ≡ failed_in test.now hour }
-{
-    test.is_some_and(|test| test.failed_at(hour))
 }
 
 /// The place of what stands at an index; one beyond 32 bits is given as the largest number of 32 bits.
