@@ -168,7 +168,7 @@ module _ (l : Ledger) where
       }
 
   -- the lines of a month have their bounds
-  lines_bounded : (m f : ℕ) → Bounded (line_at (month_lines b m) f)
+  pub lines_bounded : (m f : ℕ) → Bounded (line_at (month_lines b m) f)
   lines_bounded m =
       lines_all Bounded b m (λ f inside. (month_right_bounded b.trade m f (l.sized.1, l.shaped.1) l.wide l.priced l.whole inside (omega (arith, l.within f, l.firm f)), line_within b m f)) (lit≤ tt, lit≤ tt)
 

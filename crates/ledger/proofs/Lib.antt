@@ -2,7 +2,6 @@ pub mod JudgedRows
 pub mod Places
 pub mod Keeping
 pub mod Blank
-pub mod Modules
 pub mod Registered
 pub mod Traded
 pub mod Settled
@@ -15,5 +14,4 @@ pub mod PenaltyLaws
 pub mod BookingLaws
 pub mod Meaning
 pub mod Reports
-pub mod Sharings
 pub mod After

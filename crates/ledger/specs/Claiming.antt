@@ -34,10 +34,14 @@ put_claim m f x = record { measured = m.measured; claims = slice_set m.claims (f
 abbrev pub with_claim : Book → ℕ → Claim → Book
 with_claim b f x = with_month b (put_claim b.month f x)
 
+-- a claim wants that none was made
+abbrev pub unclaimed_rows : Claim → Rows
+unclaimed_rows x = (was_made x, refusal.ClaimedTwice) ∷ []
+
 abbrev pub claim_rows : Book → ℕ → Rows
 claim_rows b f =
     course call.Claim b.stage
-    ++ (not (given_out f b.register.count), refusal.NoFacility) ∷ (was_made (claim_of b f), refusal.ClaimedTwice) ∷ []
+    ++ (not (given_out f b.register.count), refusal.NoFacility) ∷ unclaimed_rows (claim_of b f)
 
 abbrev pub claimed : Book → ℕ → Book
 claimed b f = with_claim b f claim.Open

@@ -1,5 +1,6 @@
 -- Closing a month: its refusals, and what it books. Serves src/closing.rt. Assumes nothing.
-use Rattle.std.specs.Prelude.{◌-◌, Bool, false, ◌||◌, List, [], ◌∷◌, ◌++◌, slice_set}
+use Rattle.std.specs.Prelude.{◌-◌, Bool, List, [], ◌∷◌, ◌++◌, slice_set}
+use Rattle.std.specs.List.{list_any}
 use Rattle.sharing.specs.declared.rows.Row.{Row}
 use Rattle.ledger.specs.declared.course.Call.TheVariants as call
 use Rattle.ledger.specs.declared.refusal.Refusal.TheVariants as refusal
@@ -17,8 +18,11 @@ use Rattle.ledger.specs.Settling.{limit_rows}
 
 -- whether some claim waits for an answer
 abbrev pub some_open : List Claim → Bool
-some_open [] = false
-some_open (x ∷ xs) = is_open x || some_open xs
+some_open xs = list_any is_open xs
+
+-- the refusals before those of the rows: of the stage, and of a claim that is still open
+abbrev pub unsettled_rows : Book → Rows
+unsettled_rows b = course call.Close b.stage ++ (some_open b.month.claims, refusal.ClaimOpen) ∷ []
 
 abbrev pub close_rows : Book → List Row → Rows
 close_rows b rows = course call.Close b.stage ++ (some_open b.month.claims, refusal.ClaimOpen) ∷ limit_rows rows

@@ -18,6 +18,11 @@ abbrev pub ruled : {A : Type 0} → Rows → Result A LedgerFault → Result A L
 ruled [] answer = answer
 ruled (r ∷ rs) answer = cond r.0 (Err (fault.Own r.1)) (ruled rs answer)
 
+-- an answer, with a plain value in place of the one that it has
+abbrev pub plainly : {A B E : Type 0} → (A → B) → Result A E → Result B E
+plainly plain (Ok a) = Ok (plain a)
+plainly plain (Err e) = Err e
+
 -- what stands after a call: changed where it was accepted, and as it stood where it was refused
 abbrev pub kept_or : {A B E : Type 0} → Result A E → B → B → B
 kept_or (Ok _) changed stood = changed

@@ -20,6 +20,7 @@ pub mod Penalty
 pub mod Booking
 pub mod Money
 pub mod Lines
+pub mod Numbers
 pub mod Readings
 pub mod Settling
 pub mod Advancing

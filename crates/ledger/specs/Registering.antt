@@ -1,6 +1,7 @@
 -- Registering: its figures, its refusals, firm power, and the facility that it adds. Serves src/registering.rt. Assumes
 -- nothing.
-use Rattle.std.specs.Prelude.{ℕ, ◌+◌, ◌*◌, ◌/◌, min, Bool, true, false, not, ◌&&◌, List, [], ◌∷◌, ◌++◌, take, sum_by, nat_le, slice_set}
+use Rattle.std.specs.Prelude.{ℕ, ◌+◌, ◌*◌, ◌/◌, min, Bool, false, not, ◌&&◌, List, [], ◌∷◌, ◌++◌, take, sum_by, nat_le, slice_set}
+use Rattle.std.specs.List.{list_all}
 use Rattle.ledger.specs.declared.course.Call.TheVariants as call
 use Rattle.ledger.specs.declared.refusal.Refusal.TheVariants as refusal
 use Rattle.ledger.specs.declared.registering.Module.{Module}
@@ -14,8 +15,7 @@ abbrev pub right_module : Module → Bool
 right_module m = nat_le m.installed 1_000_000 && nat_le m.coefficient 1_000
 
 abbrev pub right_modules : List Module → Bool
-right_modules [] = true
-right_modules (m ∷ ms) = right_module m && right_modules ms
+right_modules ms = list_all right_module ms
 
 -- whether registering's figures are within their limits: a letter A to Z, one to four modules, and the access
 abbrev pub right_figures : ℕ → List Module → ℕ → ℕ → Bool

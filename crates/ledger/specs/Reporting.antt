@@ -30,12 +30,7 @@ abbrev pub measured_for : {H : Type 0} → ℕ → ℕ → (H → ℕ → ℕ) �
 measured_for shortest longest credit b f records test =
     measuring shortest longest credit b.calendar (month_of b.stage) (held_in_all b.trade (f - 1)) records test
 
--- a fault of metering, carried whole
-abbrev pub metered : Result Measured MeteringFault → Result Measured LedgerFault
-metered (Ok m) = Ok m
-metered (Err e) = Err (fault.Metering e)
-
--- the same where the result is kept and not answered
+-- a report that was measured is taken; a fault of metering is carried whole
 abbrev pub taken : Result Measured MeteringFault → Result (Unit {0}) LedgerFault
 taken (Ok m) = Ok tt
 taken (Err e) = Err (fault.Metering e)

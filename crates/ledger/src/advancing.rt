@@ -18,6 +18,7 @@ use sharing::{Row, SharingRule};
 impl Ledger {
     /// Moves on to claims, writes each buyer's charge of the month so far into its row, and answers the month's total.
     /// Nothing is booked.
+    #[tactic(auto, using(crate::specs::Runs::noted))]
     pub fn advance<R: SharingRule>(
         &mut self,
         rule: &R,
@@ -29,7 +30,7 @@ impl Ledger {
         ensures recorded { (j : Journal) → Recorded j self.old → Recorded (advancing (record { weights = R.weights rule.now; charges = R.charges rule.now }) rows.old result rows.new ∷ j) self.new }
     {
         let stage = turn(self.book.stage, Call::Advance)?;
-        let (_, total) = self.settled();
+        let (_, total) = self.settle();
         let total = share_within(rule, total, rows)?;
         self.book.move_on(stage);
         Ok(total)

@@ -1,12 +1,13 @@
 //! Awarding kW to a facility.
-ghost use Rattle.std.specs.Prelude.{◌≡◌, ◌+◌, T, ◌∷◌, Ok};
-ghost use Rattle.ledger.specs.Judged.{judged, ruled, kept_or, given_out};
-ghost use Rattle.ledger.specs.Awarding.{over_firm, right_award, award_rows, awarded};
+ghost use Rattle.std.specs.Prelude.{◌≡◌, ◌+◌, ◌∷◌, Ok};
+ghost use Rattle.ledger.specs.Judged.{judged, plainly, ruled, kept_or};
+ghost use Rattle.ledger.specs.Awarding.{over_firm, right_award, award_rows, new_award, awarded};
 ghost use Rattle.ledger.specs.Entries.{Journal, awarding};
 ghost use Rattle.ledger.specs.Runs.{Recorded};
 
-use crate::course::{Call, turn};
+use crate::course::Call;
 use crate::kept::Ledger;
+use crate::numbers::FacilityNumber;
 use crate::state::{Award, MOST_AWARDS, MOST_FACILITIES};
 use crate::{LedgerFault, Refusal};
 
@@ -24,23 +25,18 @@ impl Ledger {
         ensures after { self.new.book ≡ kept_or result (awarded self.old.book facility kw price) self.old.book }
         ensures recorded { (j : Journal) → Recorded j self.old → Recorded (awarding facility kw price result ∷ j) self.new }
     {
-        let number = self.may_award(facility, kw, price)?;
+        let holder = self.may_award(facility, kw, price)?;
         let place = self.book.trade.count;
-        let mut held = [0; MOST_FACILITIES];
-        held[facility as usize - 1] = kw;
-        self.book.trade.awards[place] = Award { kw, price, held };
+        self.book.trade.awards[place] = new_award(holder, kw, price);
         self.book.trade.count = place + 1;
-        Ok(number)
+        Ok(place as u32 + 1)
     }
 
-    /// The number that the award gets, or why it is not taken.
-    fn may_award(&self, facility: u32, kw: u32, price: u32) -> Result<u32, Refusal>
-        ensures { result ≡ judged (award_rows self.now.book facility kw price) (self.now.book.trade.count + 1) }
+    /// The facility, where these kW may be awarded to it at this price.
+    fn may_award(&self, facility: u32, kw: u32, price: u32) -> Result<FacilityNumber, Refusal>
+        ensures { plainly (λ n. n.number) result ≡ judged (award_rows self.now.book facility kw price) facility }
     {
-        turn(self.book.stage, Call::Award)?;
-        if !self.book.register.has(facility) {
-            return Err(Refusal::NoFacility);
-        }
+        let facility = self.admitted(Call::Award, facility)?;
         if self.book.trade.count >= MOST_AWARDS {
             return Err(Refusal::NoRoom);
         }
@@ -50,18 +46,25 @@ impl Ledger {
         if self.over_firm(facility, kw) {
             return Err(Refusal::OverFirm);
         }
-        Ok(self.book.trade.count as u32 + 1)
+        Ok(facility)
     }
 
     /// Whether the facility would hold more than its firm power with these kW more.
-    pub(crate) fn over_firm(&self, facility: u32, kw: u32) -> bool
-        requires { T (given_out facility self.now.book.register.count) }
-        ensures { result ≡ over_firm self.now.book facility kw }
+    pub(crate) fn over_firm(&self, facility: FacilityNumber, kw: u32) -> bool
+        ensures { result ≡ over_firm self.now.book facility.number kw }
     {
         let held = self.commitment(facility);
-        let firm = self.book.register.facilities[facility as usize - 1].firm;
-        u64::from(held) + u64::from(kw) > u64::from(firm)
+        u64::from(held) + u64::from(kw) > u64::from(self.facility(facility).firm)
     }
+}
+
+/// An award all of whose kW the facility holds.
+fn new_award(holder: FacilityNumber, kw: u32, price: u32) -> Award
+    ensures { result ≡ new_award holder.number kw price }
+{
+    let mut held = [0; MOST_FACILITIES];
+    held[holder.place()] = kw;
+    Award { kw, price, held }
 }
 
 /// Whether an award's kW and price are within their limits.

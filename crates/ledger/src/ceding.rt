@@ -1,12 +1,13 @@
 //! Ceding kW of an award from one facility to another.
-ghost use Rattle.std.specs.Prelude.{◌≡◌, ◌+◌, ◌<◌, ◌≤◌, ◌∷◌, length, Ok, ◌≢◌, slice_index};
-ghost use Rattle.ledger.specs.Judged.{judged, ruled, kept_or};
+ghost use Rattle.std.specs.Prelude.{◌≡◌, ℕ, ◌+◌, ◌-◌, ◌≤◌, ◌∷◌, Ok, ◌≢◌, slice_index};
+ghost use Rattle.ledger.specs.Judged.{judged, plainly, ruled, kept_or};
 ghost use Rattle.ledger.specs.Ceding.{cede_rows, shifted, with_held, ceded};
 ghost use Rattle.ledger.specs.Entries.{Journal, ceding};
 ghost use Rattle.ledger.specs.Runs.{Recorded};
 
 use crate::course::{Call, turn};
 use crate::kept::Ledger;
+use crate::numbers::{AwardNumber, FacilityNumber};
 use crate::state::Award;
 use crate::{LedgerFault, Refusal};
 
@@ -17,34 +18,32 @@ impl Ledger {
         ensures after { self.new.book ≡ kept_or result (ceded self.old.book award giver taker kw) self.old.book }
         ensures recorded { (j : Journal) → Recorded j self.old → Recorded (ceding award giver taker kw result ∷ j) self.new }
     {
-        self.may_cede(award, giver, taker, kw)?;
-        shift(
-            &mut self.book.trade.awards[award as usize - 1],
-            giver as usize - 1,
-            taker as usize - 1,
-            kw,
-        );
+        let (award, giver, taker) = self.may_cede(award, giver, taker, kw)?;
+        shift(&mut self.book.trade.awards[award.place()], giver, taker, kw);
         Ok(())
     }
 
-    /// Whether these kW may be ceded.
-    fn may_cede(&self, award: u32, giver: u32, taker: u32, kw: u32) -> Result<(), Refusal>
-        ensures { result ≡ judged (cede_rows self.now.book award giver taker kw) tt }
+    /// The award, the giver and the taker, where these kW may be ceded.
+    fn may_cede(
+        &self,
+        award: u32,
+        giver: u32,
+        taker: u32,
+        kw: u32,
+    ) -> Result<(AwardNumber, FacilityNumber, FacilityNumber), Refusal>
+        ensures { plainly {B = ℕ × ℕ × ℕ} (λ n. (n.0.number, n.1.number, n.2.number)) result ≡ judged (cede_rows self.now.book award giver taker kw) (award, giver, taker) }
     {
         turn(self.book.stage, Call::Cede)?;
-        if !self.book.register.has(giver) || !self.book.register.has(taker) {
-            return Err(Refusal::NoFacility);
-        }
-        if !self.book.trade.has(award) {
-            return Err(Refusal::NoAward);
-        }
+        let giver = self.find_facility(giver)?;
+        let taker = self.find_facility(taker)?;
+        let award = self.find_award(award)?;
         if kw == 0 {
             return Err(Refusal::OutOfLimits);
         }
         if giver == taker {
             return Err(Refusal::GiverIsTaker);
         }
-        if !self.is_on(taker) {
+        if !self.facility(taker).on {
             return Err(Refusal::TakerOff);
         }
         if self.held(award, giver) < kw {
@@ -53,20 +52,17 @@ impl Ledger {
         if self.over_firm(taker, kw) {
             return Err(Refusal::OverFirm);
         }
-        Ok(())
+        Ok((award, giver, taker))
     }
 }
 
-/// Moves kW of the award from the giver's place to the taker's.
-fn shift(award: &mut Award, giver: usize, taker: usize, kw: u32)
-    requires wide { length award.old.held ≡ 64 }
-    requires giver_in { giver < 64 }
-    requires taker_in { taker < 64 }
-    requires apart { taker ≢ giver }
-    requires holds { kw ≤ slice_index award.old.held giver }
-    requires room { slice_index award.old.held taker + kw ≤ 1_000_000 }
-    ensures { award.new ≡ with_held award.old (shifted award.old.held giver taker kw) }
+/// Moves kW of the award from the giver to the taker.
+fn shift(award: &mut Award, giver: FacilityNumber, taker: FacilityNumber, kw: u32)
+    requires apart { taker.number ≢ giver.number }
+    requires holds { kw ≤ slice_index award.old.held (giver.number - 1) }
+    requires room { slice_index award.old.held (taker.number - 1) + kw ≤ 1_000_000 }
+    ensures { award.new ≡ with_held award.old (shifted award.old.held (giver.number - 1) (taker.number - 1) kw) }
 {
-    award.held[giver] -= kw;
-    award.held[taker] += kw;
+    award.held[giver.place()] -= kw;
+    award.held[taker.place()] += kw;
 }

@@ -11,6 +11,7 @@ use crate::kept::Ledger;
 
 impl Ledger {
     /// Ends the month's trading. From here to the closing no holding and no switch changes.
+    #[tactic(auto, using(crate::specs::Runs::noted))]
     pub fn cut_off(&mut self) -> Result<(), LedgerFault>
         ensures answer { result ≡ ruled (cut_rows self.old.book) (Ok tt) }
         ensures after { self.new.book ≡ kept_or result (cut self.old.book) self.old.book }

@@ -1,52 +1,56 @@
 //! Who holds how many kW. Every other part of the crate reads a facility's kW under an award here.
-ghost use Rattle.std.specs.Prelude.{◌≡◌, ◌-◌, ◌<◌, ◌≤◌, T, length};
-ghost use Rattle.ledger.specs.Judged.{given_out};
-ghost use Rattle.ledger.specs.Form.{Placed, Wide, holdings, award_at, held_under, held_in_all};
+ghost use Rattle.std.specs.Prelude.{◌≡◌, ◌-◌, ◌<◌};
+ghost use Rattle.ledger.specs.Form.{given_awards, holdings, award_at, held_under, held_in_all};
 
 use crate::kept::Ledger;
-use crate::state::{Award, Trade};
+use crate::numbers::{AwardNumber, FacilityNumber};
+use crate::state::{Award, MOST_FACILITIES};
 
 impl Ledger {
-    /// The facility's commitment: the kW that it holds over all awards.
-    pub(crate) fn commitment(&self, facility: u32) -> u32
-        requires { T (given_out facility self.now.book.register.count) }
-        ensures { result ≡ held_in_all self.now.book.trade (facility - 1) }
+    /// The kW that the facility holds under the award.
+    pub(crate) fn held(&self, award: AwardNumber, facility: FacilityNumber) -> u32
+        ensures { result ≡ held_under (facility.number - 1) (award_at self.now.book.trade (award.number - 1)) }
     {
-        held_in_all(&self.book.trade, facility as usize - 1)
+        held_under(&self.book.trade.awards[award.place()], facility.place())
     }
 
-    /// The kW that the facility holds under the award.
-    pub(crate) fn held(&self, award: u32, facility: u32) -> u32
-        requires award { T (given_out award self.now.book.trade.count) }
-        requires facility { T (given_out facility self.now.book.register.count) }
-        ensures { result ≡ held_under (facility - 1) (award_at self.now.book.trade (award - 1)) }
+    /// The facility's commitment: the kW that it holds over all awards.
+    pub(crate) fn commitment(&self, facility: FacilityNumber) -> u32
+        ensures { result ≡ held_in_all self.now.book.trade (facility.number - 1) }
     {
-        held_under(
-            &self.book.trade.awards[award as usize - 1],
-            facility as usize - 1,
-        )
+        self.held_in_all(facility.place())
+    }
+
+    /// The kW that the facility at a place holds over all awards given out.
+    pub(crate) fn held_in_all(&self, facility: usize) -> u32
+        requires { facility < 64 }
+        ensures { result ≡ held_in_all self.now.book.trade facility }
+    {
+        let awards = self.given_awards();
+        awards.iter().map(|award| held_under(award, facility)).sum()
+    }
+
+    /// The awards given out.
+    pub(crate) fn given_awards(&self) -> &[Award]
+        ensures { result.now ≡ given_awards self.now.book.trade }
+    {
+        &self.book.trade.awards[..self.book.trade.count]
+    }
+}
+
+impl Award {
+    /// The kW that each facility holds under the award.
+    pub(crate) fn holdings(&self) -> &[u32; MOST_FACILITIES]
+        ensures { result.now ≡ holdings self.now }
+    {
+        &self.held
     }
 }
 
 /// The kW that the facility at a place holds under an award.
 pub(crate) fn held_under(award: &Award, facility: usize) -> u32
-    requires { facility < length (holdings award.now) }
+    requires { facility < 64 }
     ensures { result ≡ held_under facility award.now }
 {
-    award.held[facility]
-}
-
-/// The kW that the facility at a place holds over all awards given out.
-pub(crate) fn held_in_all(trade: &Trade, facility: usize) -> u32
-    requires placed { Placed trade.now }
-    requires wide { Wide trade.now }
-    requires place { facility < 64 }
-    requires limit { held_in_all trade.now facility ≤ 1_000_000 }
-    ensures { result ≡ held_in_all trade.now facility }
-{
-    let mut kw = 0;
-    for i in 0..trade.count {
-        kw += held_under(&trade.awards[i], facility);
-    }
-    kw
+    award.holdings()[facility]
 }

@@ -11,6 +11,7 @@ use crate::kept::Ledger;
 
 impl Ledger {
     /// Fills the calendar and starts month 1 in trading.
+    #[tactic(auto, using(crate::specs::Runs::noted))]
     pub fn open(
         &mut self,
         year_hours: u32,

@@ -5,6 +5,7 @@ ghost use Rattle.ledger.specs.Lines.{closed_months};
 ghost use Rattle.ledger.specs.Readings.{holding_at, booked_at};
 
 use crate::kept::Ledger;
+use crate::numbers::FacilityNumber;
 use crate::state::{Line, MOST_FACILITIES, Stage};
 
 impl Ledger {
@@ -40,9 +41,10 @@ impl Ledger {
     pub fn holding(&self, award: u32, facility: u32) -> u32
         ensures { result ≡ holding_at self.now.book award facility }
     {
-        if !self.book.trade.has(award) || !self.book.register.has(facility) {
+        let (Ok(award), Ok(facility)) = (self.find_award(award), self.find_facility(facility))
+        else {
             return 0;
-        }
+        };
         self.held(award, facility)
     }
 
@@ -51,12 +53,12 @@ impl Ledger {
         ensures value { result ≡ booked_at self.now.book month facility }
         ensures bound { Bounded result }
     {
-        if !self.stage().has_closed(month) {
+        let Ok(month) = self.find_month(month) else {
             return Line::default();
-        }
-        if facility == 0 || facility as usize > MOST_FACILITIES {
+        };
+        let Some(facility) = FacilityNumber::given(facility, MOST_FACILITIES) else {
             return Line::default();
-        }
-        self.book.booked_line(month, facility)
+        };
+        self.booked_line(month, facility)
     }
 }

@@ -1,5 +1,5 @@
 //! Registering a facility, and its firm power.
-ghost use Rattle.std.specs.Prelude.{◌≡◌, ◌+◌, ◌/◌, ◌≤◌, min, true, ◌∷◌, take, Ok};
+ghost use Rattle.std.specs.Prelude.{◌≡◌, ◌+◌, ◌≤◌, true, ◌∷◌, take, length, sum_by, Ok};
 ghost use Rattle.ledger.specs.Judged.{judged, ruled, kept_or};
 ghost use Rattle.ledger.specs.Registering.{right_module, right_modules, right_figures, watts, firm_power, register_rows, registered};
 ghost use Rattle.ledger.specs.Entries.{Journal, registering};
@@ -7,7 +7,7 @@ ghost use Rattle.ledger.specs.Runs.{Recorded};
 
 use crate::course::{Call, turn};
 use crate::kept::Ledger;
-use crate::state::{Book, Facility, MOST_FACILITIES};
+use crate::state::{Facility, MOST_FACILITIES};
 use crate::{LedgerFault, Refusal};
 
 /// The most modules of a facility.
@@ -16,6 +16,8 @@ pub const MOST_MODULES: usize = 4;
 const MOST_KW: u32 = 1_000_000;
 /// The whole of a coefficient, in thousandths.
 const WHOLE: u32 = 1_000;
+/// The watts of a kW.
+const WATTS: u64 = 1_000;
 
 /// A module of a facility: its installed kW, and the thousandths of them that are firm.
 #[derive(Clone, Copy)]
@@ -26,6 +28,7 @@ pub struct Module {
 
 impl Ledger {
     /// Registers a facility, switched off, and answers its number.
+    #[tactic(auto, using(crate::specs::Runs::noted))]
     pub fn register(
         &mut self,
         letter: u8,
@@ -37,7 +40,7 @@ impl Ledger {
         ensures after { self.new.book ≡ kept_or result (registered self.old.book letter (firm_power modules count access)) self.old.book }
         ensures recorded { (j : Journal) → Recorded j self.old → Recorded (registering letter modules count access result ∷ j) self.new }
     {
-        let number = may_register(&self.book, letter, modules, count, access)?;
+        let number = self.may_register(letter, modules, count, access)?;
         let firm = firm_power(modules, count, access);
         let place = self.book.register.count;
         self.book.register.facilities[place] = Facility {
@@ -48,26 +51,26 @@ impl Ledger {
         self.book.register.count = place + 1;
         Ok(number)
     }
-}
 
-/// The number that the facility gets, or why it is not registered.
-fn may_register(
-    book: &Book,
-    letter: u8,
-    modules: [Module; MOST_MODULES],
-    count: u32,
-    access: u32,
-) -> Result<u32, Refusal>
-    ensures { result ≡ judged (register_rows book.now letter modules count access) (book.now.register.count + 1) }
-{
-    turn(book.stage, Call::Register)?;
-    if book.register.count >= MOST_FACILITIES {
-        return Err(Refusal::NoRoom);
+    /// The number that the facility gets, or why it is not registered.
+    fn may_register(
+        &self,
+        letter: u8,
+        modules: [Module; MOST_MODULES],
+        count: u32,
+        access: u32,
+    ) -> Result<u32, Refusal>
+        ensures { result ≡ judged (register_rows self.now.book letter modules count access) (self.now.book.register.count + 1) }
+    {
+        turn(self.book.stage, Call::Register)?;
+        if self.book.register.count >= MOST_FACILITIES {
+            return Err(Refusal::NoRoom);
+        }
+        if !right_figures(letter, modules, count, access) {
+            return Err(Refusal::OutOfLimits);
+        }
+        Ok(self.book.register.count as u32 + 1)
     }
-    if !right_figures(letter, modules, count, access) {
-        return Err(Refusal::OutOfLimits);
-    }
-    Ok(book.register.count as u32 + 1)
 }
 
 /// Whether registering's figures are within their limits. Modules behind the count are not looked at.
@@ -77,23 +80,18 @@ fn right_figures(letter: u8, modules: [Module; MOST_MODULES], count: u32, access
     letter.is_ascii_uppercase()
         && count >= 1
         && count as usize <= MOST_MODULES
-        && right_modules(modules, count)
+        && right_modules(&modules[..count as usize])
         && access <= MOST_KW
 }
 
-/// Whether the figures of the first `count` modules are within their limits.
-fn right_modules(modules: [Module; MOST_MODULES], count: u32) -> bool
-    requires { count ≤ 4 }
-    ensures { result ≡ right_modules (take count modules) }
+/// Whether each module's figures are within their limits.
+fn right_modules(modules: &[Module]) -> bool
+    ensures { result ≡ right_modules modules.now }
 {
-    for i in 0..count as usize {
-        if !right_module(modules[i]) {
-            return false;
-        }
-    }
-    true
+    modules.iter().all(|module| right_module(*module))
 }
 
+/// Whether a module's figures are within their limits.
 fn right_module(module: Module) -> bool
     ensures { result ≡ right_module «module» }
 {
@@ -108,25 +106,22 @@ fn firm_power(modules: [Module; MOST_MODULES], count: u32, access: u32) -> u32
     ensures value { result ≡ firm_power modules count access }
     ensures bound { result ≤ 1_000_000 }
 {
-    let mut sum = 0;
-    for i in 0..count as usize {
-        sum = with_module(sum, modules[i]);
-    }
-    lesser(access, sum)
+    let kw = watts_together(&modules[..count as usize]) / WATTS;
+    u64::from(access).min(kw) as u32
 }
 
-/// The watts so far, with those of one module more.
-fn with_module(sum: u64, module: Module) -> u64
-    requires room { sum ≤ 3_000_000_000 }
-    requires right { right_module «module» ≡ true }
-    ensures { result ≡ sum + watts «module» }
+/// The watts that modules have firm together.
+fn watts_together(modules: &[Module]) -> u64
+    requires few { length modules.now ≤ 4 }
+    requires right { right_modules modules.now ≡ true }
+    ensures { result ≡ sum_by watts modules.now }
 {
-    sum + u64::from(module.installed) * u64::from(module.coefficient)
+    modules.iter().map(|module| watts(*module)).sum()
 }
 
-/// The access, or the whole kW of so many watts where these are fewer.
-fn lesser(access: u32, sum: u64) -> u32
-    ensures { result ≡ min access (sum / 1000) }
+/// A module's firm power in watts.
+fn watts(module: Module) -> u64
+    ensures { result ≡ watts «module» }
 {
-    u64::from(access).min(sum / 1_000) as u32
+    u64::from(module.installed) * u64::from(module.coefficient)
 }

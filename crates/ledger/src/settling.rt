@@ -1,15 +1,10 @@
-//! What the advance and the closing share: the limits of the rows, the month's lines and total, and sharing the total.
-ghost use Rattle.std.specs.Prelude.{◌≡◌, ℕ, ◌≤◌, Ok};
+//! What the advance and the closing share: the limits of the rows, and sharing the month's total over them.
+ghost use Rattle.std.specs.Prelude.{◌≡◌, ◌≤◌};
 ghost use Rattle.sharing.specs.Rows.{mwhs, charged};
 ghost use Rattle.sharing.specs.Rule.{Shareable};
 ghost use Rattle.ledger.specs.Judged.{judged, ruled, kept_or};
-ghost use Rattle.ledger.specs.Form.{Bounded, month_of};
-ghost use Rattle.ledger.specs.Booking.{line_at, month_lines};
-ghost use Rattle.ledger.specs.Settling.{rows_within, limit_rows, total_now, shared};
+ghost use Rattle.ledger.specs.Settling.{rows_within, limit_rows, shared};
 
-use crate::booking::settle;
-use crate::kept::Ledger;
-use crate::state::{Line, MOST_FACILITIES};
 use crate::{LedgerFault, Refusal};
 use sharing::{Row, SharingRule, total_mwh};
 
@@ -17,18 +12,6 @@ use sharing::{Row, SharingRule, total_mwh};
 const MOST_ROWS: usize = 1_024;
 /// The most MWh that the rows have together.
 const MOST_MWH: u64 = 40_000_000;
-
-impl Ledger {
-    /// The lines of the month under way, and its total.
-    pub(crate) fn settled(&self) -> ([Line; MOST_FACILITIES], u64)
-        ensures lines { result.0 ≡ month_lines self.now.book (month_of self.now.book.stage) }
-        ensures bounded { (f : ℕ) → Bounded (line_at result.0 f) }
-        ensures total { result.1 ≡ total_now self.now.book }
-        ensures bound { result.1 ≤ 30_000_000_000 }
-    {
-        settle(&self.book, self.book.stage.month())
-    }
-}
 
 /// Shares the total over the rows by the rule, and answers it, or refuses rows outside their limits.
 pub(crate) fn share_within<R: SharingRule>(
@@ -45,7 +28,7 @@ pub(crate) fn share_within<R: SharingRule>(
 }
 
 /// Refuses rows that are too many, or have too many MWh.
-pub(crate) fn check_rows(rows: &[Row]) -> Result<(), Refusal>
+fn check_rows(rows: &[Row]) -> Result<(), Refusal>
     ensures { result ≡ judged (limit_rows rows.now) tt }
 {
     if !rows_within(rows) {
@@ -62,11 +45,7 @@ fn rows_within(rows: &[Row]) -> bool
 }
 
 /// Shares the total over the rows by the rule, and answers it.
-pub(crate) fn share<R: SharingRule>(
-    rule: &R,
-    total: u64,
-    rows: &mut [Row],
-) -> Result<u64, LedgerFault>
+fn share<R: SharingRule>(rule: &R, total: u64, rows: &mut [Row]) -> Result<u64, LedgerFault>
     requires { Shareable total (mwhs rows.old) }
     ensures answer { result ≡ shared total (R.weights rule.now total (mwhs rows.old)) }
     ensures rows { rows.new ≡ kept_or result (charged rows.old (R.charges rule.now total (mwhs rows.old))) rows.old }

@@ -1,5 +1,5 @@
 //! Upholding a claim with a new report.
-ghost use Rattle.std.specs.Prelude.{◌≡◌, ◌≤◌, ◌∷◌, length};
+ghost use Rattle.std.specs.Prelude.{◌≡◌, ◌∷◌};
 ghost use Rattle.ledger.specs.Judged.{ruled, kept_or};
 ghost use Rattle.ledger.specs.declared.state.Claim.TheVariants as claim;
 ghost use Rattle.ledger.specs.Claiming.{claim_of, put_claim};
@@ -13,18 +13,20 @@ use crate::LedgerFault;
 use crate::claiming::answerable;
 use crate::course::Call;
 use crate::kept::Ledger;
+use crate::numbers::FacilityNumber;
 use crate::state::{Claim, Month};
 use metering::{Kind, Measured, Report};
 
 impl Ledger {
     /// Answers the facility's claim, and takes the report in place of the one that it has.
     pub fn uphold<K: Kind>(&mut self, facility: u32, report: &Report<K>) -> Result<(), LedgerFault>
-        ensures answer { result ≡ ruled (letter_rows made.Answer self.old.book facility K.letter) (upheld_by (measured_for K.shortest K.longest K.credit self.old.book facility report.now.hours.now report.now.test) (claim_of self.old.book facility)) }
-        ensures after { self.new.book ≡ kept_or result (upheld self.old.book facility (measured_for K.shortest K.longest K.credit self.old.book facility report.now.hours.now report.now.test)) self.old.book }
-        ensures recorded { (j : Journal) → Recorded j self.old → Recorded (upholding facility (meant K.letter K.shortest K.longest K.credit report.now.hours.now report.now.test) result ∷ j) self.new }
+        ensures answer { result ≡ ruled (letter_rows made.Answer self.old.book facility K.LETTER) (upheld_by (measured_for K.SHORTEST K.LONGEST K.credit self.old.book facility report.now.hours.now report.now.test) (claim_of self.old.book facility)) }
+        ensures after { self.new.book ≡ kept_or result (upheld self.old.book facility (measured_for K.SHORTEST K.LONGEST K.credit self.old.book facility report.now.hours.now report.now.test)) self.old.book }
+        ensures recorded { (j : Journal) → Recorded j self.old → Recorded (upholding facility (meant K.LETTER K.SHORTEST K.LONGEST K.credit report.now.hours.now report.now.test) result ∷ j) self.new }
     {
-        let measured = self.measured(Call::Answer, facility, report)?;
-        answerable(self.book.month.claims[facility as usize - 1])?;
+        let facility = self.may_report(Call::Answer, facility, K::LETTER)?;
+        let measured = self.measured(facility, report)?;
+        answerable(self.claim_of(facility))?;
         self.book.month.answer_by(facility, measured);
         Ok(())
     }
@@ -32,11 +34,8 @@ impl Ledger {
 
 impl Month {
     /// Puts what the facility's new report came to, and answers its claim.
-    fn answer_by(&mut self, facility: u32, measured: Measured)
-        requires facility { (1 ≤ facility) × (facility ≤ 64) }
-        requires reports { length self.old.measured ≡ 64 }
-        requires claims { length self.old.claims ≡ 64 }
-        ensures { self.new ≡ put_claim (put_report self.old facility measured) facility claim.Answered }
+    fn answer_by(&mut self, facility: FacilityNumber, measured: Measured)
+        ensures { self.new ≡ put_claim (put_report self.old facility.number measured) facility.number claim.Answered }
     {
         self.put_report(facility, measured);
         self.put_claim(facility, Claim::Answered);

@@ -1,29 +1,38 @@
-use Rattle.std.proofs.Common.{◌+◌, Ok, sym, refl}
-use Rattle.ledger.specs.Awarding.{award_rows, awarded}
+use Rattle.std.proofs.Common.{◌≡◌, ℕ, ◌+◌, set, Ok, sym, subst, rules}
+use Rattle.ledger.specs.declared.state.Award.{Award}
+use Rattle.ledger.specs.declared.state.Book.{Book}
+use Rattle.ledger.specs.Changes.{with_trade}
+use Rattle.ledger.specs.Awarding.{award_rows, new_award, awarded}
 use Rattle.ledger.specs.Runs.{noted}
-use Rattle.ledger.proofs.JudgedRows.{refused_exit, accepted_exit}
+use Rattle.ledger.proofs.JudgedRows.{refused_exit, accepted_value}
+use Rattle.ledger.proofs.Keeping.{Kept}
 use Rattle.ledger.proofs.Traded.{awardable}
 use Rattle.ledger.proofs.After.{awarded_kept}
 use Rattle.ledger.proofs.kept.Ledger.award.Goals as goal
 
-pub returns-in_err-number : goal.returns-in_err-number
-returns-in_err-number c =
+pub returns-in_err-holder : goal.returns-in_err-holder
+returns-in_err-holder c =
     let b = c.args.self.now.book in
-    let n = b.trade.count + 1 in
-    let exit = refused_exit (award_rows b c.args.facility c.args.kw c.args.price) n (Ok n) c.in_err-number.field-0.0 c.from_residual.result c.in_err-number.ensures c.from_residual.ensures.1 in
-    let after = exit.1 (awarded b c.args.facility c.args.kw c.args.price) b in
+    let f = c.args.facility in
+    let exit = refused_exit (award_rows b f c.args.kw c.args.price) f (Ok (b.trade.count + 1)) c.in_err-holder.field-0.0 c.from_residual.result c.in_err-holder.ensures c.from_residual.ensures.1 in
+    let after = exit.1 (awarded b f c.args.kw c.args.price) b in
     record { answer = exit.0; after = after; recorded = λ j h. noted j _ c.args.self.now _ h (exit.0, after) }
 
-pub returns : goal.returns
-returns c =
+-- the book with a new award, all of whose kW facility n holds, is the awarded one
+is_awarded : (b : Book) (f kw price n : ℕ) (new : Award) → n ≡ f → new ≡ new_award n kw price → with_trade b (record { awards = set b.trade.awards b.trade.count new; count = b.trade.count + 1 }) ≡ awarded b f kw price
+is_awarded b f kw price n new own is = cc
+
+pub returns-clause-recorded : goal.returns-clause-recorded
+returns-clause-recorded c =
     let b = c.args.self.now.book in
-    let answer = accepted_exit (award_rows b c.args.facility c.args.kw c.args.price) (b.trade.count + 1) c.in_ok-number.number c.in_ok-number.ensures in
-    record { answer = answer; after = refl; recorded = λ j h. noted j _ c.args.self.now _ h (answer, refl) }
+    let f = c.args.facility in
+    let own = accepted_value (award_rows b f c.args.kw c.args.price) f c.in_ok-holder.holder.number c.in_ok-holder.ensures in
+    λ j h. noted j _ c.args.self.now _ h (search rules, is_awarded b f c.args.kw c.args.price _ c.new_award.result own c.new_award.ensures)
 
 pub invariant_of-self : goal.invariant_of-self
 invariant_of-self c =
     let b = c.args.self.now.book in
     let f = c.args.facility in
-    let kw = c.args.kw in
-    let price = c.args.price in
-    awarded_kept c.args.self.now f kw price (awardable b f kw price (b.trade.count + 1) c.in_ok-number.number (sym c.in_ok-number.ensures))
+    let own = accepted_value (award_rows b f c.args.kw c.args.price) f c.in_ok-holder.holder.number c.in_ok-holder.ensures in
+    let ok = awardable b f c.args.kw c.args.price f c.in_ok-holder.holder.number (sym c.in_ok-holder.ensures) in
+    subst Kept (sym (is_awarded b f c.args.kw c.args.price _ c.new_award.result own c.new_award.ensures)) (awarded_kept c.args.self.now f c.args.kw c.args.price ok)

@@ -1,56 +1,63 @@
-use Rattle.std.proofs.Common.{◌-◌, set, Ok, sym, ap, subst, arith}
+use Rattle.std.proofs.Common.{◌≡◌, ℕ, ◌-◌, set, Ok, Result, sym, ap, ◌∙◌, subst, arith, rules}
 use Rattle.ledger.specs.declared.state.Award.{Award}
 use Rattle.ledger.specs.declared.state.Book.{Book}
-use Rattle.ledger.specs.Form.{no_award, held_under}
+use Rattle.ledger.specs.declared.refusal.Refusal.{Refusal}
+use Rattle.ledger.specs.Judged.{judged}
+use Rattle.ledger.specs.Form.{no_award, award_at, held_under}
 use Rattle.ledger.specs.Changes.{with_trade}
-use Rattle.ledger.specs.Ceding.{cede_rows, ceded}
+use Rattle.ledger.specs.Ceding.{cede_rows, shifted, with_held, ceded}
 use Rattle.ledger.specs.Runs.{noted}
 use Rattle.ledger.proofs.Keeping.{Kept}
-use Rattle.ledger.proofs.JudgedRows.{refused_exit, accepted_exit}
+use Rattle.ledger.proofs.JudgedRows.{refused_exit, accepted_as, accepted_value}
 use Rattle.ledger.proofs.Places.{front_le}
-use Rattle.ledger.proofs.Traded.{cedable, apart_places}
+use Rattle.ledger.proofs.Traded.{Cedable, cedable}
 use Rattle.ledger.proofs.After.{ceded_kept}
 use Rattle.ledger.proofs.kept.Ledger.cede.Goals as goal
 
-pub returns-in_err-may_cede : goal.returns-in_err-may_cede
-returns-in_err-may_cede c =
+pub returns-in_err-award : goal.returns-in_err-award
+returns-in_err-award c =
     let b = c.args.self.now.book in
-    let exit = refused_exit (cede_rows b c.args.award c.args.giver c.args.taker c.args.kw) tt (Ok tt) c.in_err-may_cede.field-0.0 c.from_residual.result c.in_err-may_cede.ensures c.from_residual.ensures.1 in
+    let given : ℕ × ℕ × ℕ = (c.args.award, c.args.giver, c.args.taker) in
+    let exit = refused_exit (cede_rows b c.args.award c.args.giver c.args.taker c.args.kw) given (Ok tt) c.in_err-award.field-0.0 c.from_residual.result c.in_err-award.ensures c.from_residual.ensures.1 in
     let after = exit.1 (ceded b c.args.award c.args.giver c.args.taker c.args.kw) b in
     record { answer = exit.0; after = after; recorded = λ j h. noted j _ c.args.self.now _ h (exit.0, after) }
 
-pub shift-requires : goal.shift-requires
-shift-requires c =
+-- the book with an award of which kW were moved from facility g to facility t is the ceded one
+is_ceded : (b : Book) (award giver taker kw place g t : ℕ) (new : Award) → place ≡ award - 1 → g ≡ giver → t ≡ taker → new ≡ with_held (award_at b.trade place) (shifted (award_at b.trade place).held (g - 1) (t - 1) kw) → with_trade b (record { awards = set b.trade.awards place new; count = b.trade.count }) ≡ ceded b award giver taker kw
+is_ceded b award giver taker kw place g t new at from to is = cc
+
+-- what a cession that is accepted tells, and whose the numbers are
+found_cedable : (b : Book) (award giver taker kw a g t : ℕ) → ◌≡◌ {A = Result (ℕ × ℕ × ℕ) Refusal} (Ok (a, g, t)) (judged (cede_rows b award giver taker kw) (award, giver, taker)) → Cedable b award giver taker kw × (a ≡ award) × (g ≡ giver) × (t ≡ taker)
+found_cedable b award giver taker kw a g t accepted =
+    let given : ℕ × ℕ × ℕ = (award, giver, taker) in
+    let found : ℕ × ℕ × ℕ = (a, g, t) in
+    let own : found ≡ given = accepted_value (cede_rows b award giver taker kw) given found accepted in
+    (cedable b award giver taker kw (accepted_as (cede_rows b award giver taker kw) given found tt accepted), ap (λ x. x.0) own, ap (λ x. x.1) own, ap (λ x. x.2) own)
+
+pub shift-requires-clause-room : goal.shift-requires-clause-room
+shift-requires-clause-room c =
     let s = c.args.self.now in
     let b = s.book in
     let a = c.args.award in
-    let giver = c.args.giver in
     let taker = c.args.taker in
-    let ok = cedable b a giver taker c.args.kw (sym c.in_ok-may_cede.ensures) in
+    let own = found_cedable b a c.args.giver taker c.args.kw _ _ _ c.in_ok-award.ensures in
+    let ok = own.0 in
+    let place : c.place.result ≡ a - 1 = c.place.ensures.value ∙ ap (λ n. n - 1) own.1 in
     let most = front_le (held_under (taker - 1)) b.trade.awards (a - 1) b.trade.count no_award (omega (arith, ok.award_from, ok.award_to)) (omega (arith, s.shaped.1, s.sized.1)) in
-    record {
-      wide = s.wide (a - 1) (omega (arith, ok.award_from, ok.award_to));
-      giver_in = omega (arith, ok.giver_from, ok.giver_to, s.sized.0);
-      taker_in = omega (arith, ok.taker_from, ok.taker_to, s.sized.0);
-      apart = apart_places b a giver taker c.args.kw ok s.shaped.1 s.sized s.wide;
-      holds = ok.holds;
-      room = omega (arith, ok.firm, s.firm (taker - 1), most);
-    }
+    rw (place, own.3) (omega (arith, ok.firm, s.firm (taker - 1), most))
 
 pub returns : goal.returns
 returns c =
     let b = c.args.self.now.book in
     let a = c.args.award in
-    let answer = accepted_exit (cede_rows b a c.args.giver c.args.taker c.args.kw) tt c.in_ok-may_cede.field-0 c.in_ok-may_cede.ensures in
-    let after = ap (λ x. with_trade b (record { awards = set b.trade.awards (a - 1) x; count = b.trade.count })) c.shift.ensures in
-    record { answer = answer; after = after; recorded = λ j h. noted j _ c.args.self.now _ h (answer, after) }
+    let own = found_cedable b a c.args.giver c.args.taker c.args.kw _ _ _ c.in_ok-award.ensures in
+    let after = is_ceded b a c.args.giver c.args.taker c.args.kw c.place.result _ _ c.shift.new.award (c.place.ensures.value ∙ ap (λ n. n - 1) own.1) own.2 own.3 c.shift.ensures in
+    record { answer = search rules; after = after; recorded = λ j h. noted j _ c.args.self.now _ h (search rules, after) }
 
 pub invariant_of-self : goal.invariant_of-self
 invariant_of-self c =
     let b = c.args.self.now.book in
     let a = c.args.award in
-    let giver = c.args.giver in
-    let taker = c.args.taker in
-    let kw = c.args.kw in
-    let after : Award → Book = λ x. with_trade b (record { awards = set b.trade.awards (a - 1) x; count = b.trade.count }) in
-    subst (λ x. Kept (after x)) (sym c.shift.ensures) (ceded_kept c.args.self.now a giver taker kw (cedable b a giver taker kw (sym c.in_ok-may_cede.ensures)))
+    let own = found_cedable b a c.args.giver c.args.taker c.args.kw _ _ _ c.in_ok-award.ensures in
+    let after = is_ceded b a c.args.giver c.args.taker c.args.kw c.place.result _ _ c.shift.new.award (c.place.ensures.value ∙ ap (λ n. n - 1) own.1) own.2 own.3 c.shift.ensures in
+    subst Kept (sym after) (ceded_kept c.args.self.now a c.args.giver c.args.taker c.args.kw own.0)

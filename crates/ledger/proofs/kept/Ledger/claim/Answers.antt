@@ -1,20 +1,6 @@
-use Rattle.std.proofs.Common.{Ok, ap}
-use Rattle.ledger.specs.Changes.{with_month}
-use Rattle.ledger.specs.Claiming.{claim_rows, claimed}
+use Rattle.std.proofs.Common.{rules}
 use Rattle.ledger.specs.Runs.{noted}
-use Rattle.ledger.proofs.JudgedRows.{refused_exit, accepted_exit}
 use Rattle.ledger.proofs.kept.Ledger.claim.Goals as goal
 
-pub returns-in_err-may_claim : goal.returns-in_err-may_claim
-returns-in_err-may_claim c =
-    let b = c.args.self.now.book in
-    let exit = refused_exit (claim_rows b c.args.facility) tt (Ok tt) c.in_err-may_claim.field-0.0 c.from_residual.result c.in_err-may_claim.ensures c.from_residual.ensures.1 in
-    let after = exit.1 (claimed b c.args.facility) b in
-    record { answer = exit.0; after = after; recorded = λ j h. noted j _ c.args.self.now _ h (exit.0, after) }
-
-pub returns : goal.returns
-returns c =
-    let b = c.args.self.now.book in
-    let answer = accepted_exit (claim_rows b c.args.facility) tt c.in_ok-may_claim.field-0 c.in_ok-may_claim.ensures in
-    let after = ap (with_month b) c.put_claim.ensures in
-    record { answer = answer; after = after; recorded = λ j h. noted j _ c.args.self.now _ h (answer, after) }
+pub returns-in_err-facility-clause-recorded : goal.returns-in_err-facility-clause-recorded
+returns-in_err-facility-clause-recorded c = search (rules, noted)

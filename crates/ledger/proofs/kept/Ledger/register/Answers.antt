@@ -1,7 +1,7 @@
-use Rattle.std.proofs.Common.{◌+◌, ◌<◌, Ok, ap, rules}
+use Rattle.std.proofs.Common.{◌+◌, ◌<◌, Ok, rules}
 use Rattle.ledger.specs.Registering.{register_rows, firm_power, registered}
 use Rattle.ledger.specs.Runs.{noted}
-use Rattle.ledger.proofs.JudgedRows.{refused_exit, accepted_exit}
+use Rattle.ledger.proofs.JudgedRows.{refused_exit}
 use Rattle.ledger.proofs.After.{registered_kept}
 use Rattle.ledger.proofs.kept.Ledger.register.Goals as goal
 
@@ -12,13 +12,6 @@ returns-in_err-number c =
     let exit = refused_exit (register_rows b c.args.letter c.args.modules c.args.count c.args.access) n (Ok n) c.in_err-number.field-0.0 c.from_residual.result c.in_err-number.ensures c.from_residual.ensures.1 in
     let after = exit.1 (registered b c.args.letter (firm_power c.args.modules c.args.count c.args.access)) b in
     record { answer = exit.0; after = after; recorded = λ j h. noted j _ c.args.self.now _ h (exit.0, after) }
-
-pub returns : goal.returns
-returns c =
-    let b = c.args.self.now.book in
-    let answer = accepted_exit (register_rows b c.args.letter c.args.modules c.args.count c.args.access) (b.register.count + 1) c.in_ok-number.number c.in_ok-number.ensures in
-    let after = ap (registered b c.args.letter) c.firm_power-firm.ensures.value in
-    record { answer = answer; after = after; recorded = λ j h. noted j _ c.args.self.now _ h (answer, after) }
 
 pub invariant_of-self : goal.invariant_of-self
 invariant_of-self c =

@@ -1,24 +1,22 @@
-use Rattle.std.proofs.Common.{sym, ap, ◌∙◌}
+use Rattle.std.proofs.Common.{ℕ, Result, rules}
+use Rattle.metering.specs.declared.measuring.Measured.{Measured}
+use Rattle.metering.specs.declared.fault.MeteringFault.{MeteringFault}
 use Rattle.ledger.specs.declared.course.Call.TheVariants as call
-use Rattle.ledger.specs.Changes.{with_month}
-use Rattle.ledger.specs.Reporting.{letter_rows, measured_for, metered, taken, with_measured}
+use Rattle.ledger.specs.Reporting.{letter_rows, measured_for}
 use Rattle.ledger.specs.Runs.{noted}
+use Rattle.ledger.proofs.JudgedRows.{accepted_value}
 use Rattle.ledger.proofs.Meaning.{reporting_meant}
-use Rattle.ledger.proofs.JudgedRows.{refused_below, passed_through}
-use Rattle.ledger.proofs.Reports.{not_taken, is_taken, is_put}
+use Rattle.ledger.proofs.Reports.{is_put}
 use Rattle.ledger.proofs.kept.Ledger.report.Goals as goal
 
-pub returns-in_err-measured : goal.returns-in_err-measured
-returns-in_err-measured g c =
-    let b = c.args.self.now.book in
-    let f = c.args.facility in
+pub returns-in_err-facility-clause-recorded : goal.returns-in_err-facility-clause-recorded
+returns-in_err-facility-clause-recorded g c = search (rules, noted, reporting_meant)
+
+pub returns-in_err-measured-clause-recorded : goal.returns-in_err-measured-clause-recorded
+returns-in_err-measured-clause-recorded g c =
     let report = c.args.report.now in
     let kind = g.K.Kind in
-    let m = measured_for kind.shortest kind.longest kind.credit b f report.hours.now report.test in
-    let e = c.in_err-measured.field-0.0 in
-    let exit = refused_below (letter_rows call.Report b f kind.letter) (metered m) (taken m) e c.from_residual.result (not_taken m e) c.in_err-measured.ensures c.from_residual.ensures.1 in
-    let after = exit.1 (with_measured b f m) b in
-    record { answer = exit.0; after = after; recorded = λ j h. noted j _ c.args.self.now _ h (reporting_meant kind.letter kind.shortest kind.longest kind.credit b f report.hours.now report.test _ _ exit.0 after) }
+    λ j h. noted j _ c.args.self.now _ h (reporting_meant kind.LETTER kind.SHORTEST kind.LONGEST kind.credit c.args.self.now.book c.args.facility report.hours.now report.test _ _ (search rules) (search rules))
 
 pub returns : goal.returns
 returns g c =
@@ -26,9 +24,8 @@ returns g c =
     let f = c.args.facility in
     let report = c.args.report.now in
     let kind = g.K.Kind in
-    let m = measured_for kind.shortest kind.longest kind.credit b f report.hours.now report.test in
-    let v = c.in_ok-measured.measured in
-    let passed = passed_through (letter_rows call.Report b f kind.letter) (metered m) v (taken m) (sym c.in_ok-measured.ensures) in
-    let answer = sym (passed.1 ∙ is_taken m v passed.0) in
-    let after = ap (with_month b) c.put_report.ensures ∙ is_put b f m v passed.0 in
-    record { answer = answer; after = after; recorded = λ j h. noted j _ c.args.self.now _ h (reporting_meant kind.letter kind.shortest kind.longest kind.credit b f report.hours.now report.test _ _ answer after) }
+    let m : ℕ → Result Measured MeteringFault = λ n. measured_for kind.SHORTEST kind.LONGEST kind.credit b n report.hours.now report.test in
+    let n = c.in_ok-facility.facility.number in
+    let own = accepted_value (letter_rows call.Report b f c.LETTER.result) f n c.in_ok-facility.ensures in
+    let after = is_put b f n m c.in_ok-measured.measured own c.in_ok-measured.ensures c.put_report.new.self c.put_report.ensures in
+    record { answer = search rules; after = after; recorded = λ j h. noted j _ c.args.self.now _ h (reporting_meant kind.LETTER kind.SHORTEST kind.LONGEST kind.credit b f report.hours.now report.test _ _ (search rules) after) }
