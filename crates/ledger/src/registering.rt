@@ -20,7 +20,7 @@ const WHOLE: u32 = 1_000;
 const WATTS: u64 = 1_000;
 
 /// A module of a facility: its installed kW, and the thousandths of them that are firm.
-#[derive(Clone, Copy)]
+#[derive(Clone, Copy, Default)]
 pub struct Module {
     pub installed: u32,
     pub coefficient: u32,

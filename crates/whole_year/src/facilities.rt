@@ -18,12 +18,6 @@ pub const NEW_STORE: u32 = 5;
 /// The month in which the new store is registered.
 pub const NEW_STORE_COMES: u32 = 6;
 
-/// A place for a module that is not there.
-const NONE: Module = Module {
-    installed: 0,
-    coefficient: 0,
-};
-
 /// What a facility is registered with.
 #[derive(Clone, Copy)]
 struct Entry {
@@ -99,7 +93,12 @@ fn of_kw(installed: u32, coefficient: u32) -> Module
 fn plant() -> Entry {
     Entry {
         letter: Thermal::LETTER,
-        modules: [of_kw(100_000, 900), of_kw(20_000, 251), NONE, NONE],
+        modules: [
+            of_kw(100_000, 900),
+            of_kw(20_000, 251),
+            Module::default(),
+            Module::default(),
+        ],
         count: 2,
         access: 95_000,
     }
@@ -109,7 +108,12 @@ fn plant() -> Entry {
 fn store() -> Entry {
     Entry {
         letter: Storage::LETTER,
-        modules: [of_kw(30_000, 700), of_kw(10_010, 900), NONE, NONE],
+        modules: [
+            of_kw(30_000, 700),
+            of_kw(10_010, 900),
+            Module::default(),
+            Module::default(),
+        ],
         count: 2,
         access: 50_000,
     }
@@ -119,7 +123,12 @@ fn store() -> Entry {
 fn consumer() -> Entry {
     Entry {
         letter: Demand::LETTER,
-        modules: [of_kw(20_000, 1_000), NONE, NONE, NONE],
+        modules: [
+            of_kw(20_000, 1_000),
+            Module::default(),
+            Module::default(),
+            Module::default(),
+        ],
         count: 1,
         access: 20_000,
     }
@@ -129,7 +138,12 @@ fn consumer() -> Entry {
 fn late_plant() -> Entry {
     Entry {
         letter: Thermal::LETTER,
-        modules: [of_kw(60_000, 850), NONE, NONE, NONE],
+        modules: [
+            of_kw(60_000, 850),
+            Module::default(),
+            Module::default(),
+            Module::default(),
+        ],
         count: 1,
         access: 50_000,
     }
@@ -139,7 +153,12 @@ fn late_plant() -> Entry {
 fn new_store() -> Entry {
     Entry {
         letter: Storage::LETTER,
-        modules: [of_kw(12_000, 800), NONE, NONE, NONE],
+        modules: [
+            of_kw(12_000, 800),
+            Module::default(),
+            Module::default(),
+            Module::default(),
+        ],
         count: 1,
         access: 10_000,
     }

@@ -7,16 +7,10 @@ use journal::audit;
 use ledger::{Ledger, Line};
 use sharing::Row;
 
-/// A line on which nothing is booked.
-const NOTHING: Line = Line {
-    right: 0,
-    penalty: 0,
-};
-
 /// Prints each facility's right and penalty in a closed month, and what they add up to.
 pub fn print_lines(rt: &HostRuntime, ledger: &Ledger, month: u32) -> anyhow::Result<()> {
     println!(rt; "{:>10} {:>12} {:>12}", "facility", "right", "penalty")?;
-    let mut all = NOTHING;
+    let mut all = Line::default();
     for facility in 1..=ledger.facilities() {
         let line = accepted(rt, "a line of the month", ledger.line(month, facility))?;
         println!(rt; "{facility:>10} {:>12} {:>12}", line.right, line.penalty)?;

@@ -57,10 +57,7 @@ fn begin(rt: &HostRuntime, ledger: &mut Ledger) -> anyhow::Result<()> {
 
 /// Registers a thermal facility of one module.
 fn register(ledger: &mut Ledger) -> Result<u32, LedgerFault> {
-    let mut modules = [Module {
-        installed: 0,
-        coefficient: 0,
-    }; MOST_MODULES];
+    let mut modules = [Module::default(); MOST_MODULES];
     modules[0] = Module {
         installed: FIRM,
         coefficient: 1_000,
