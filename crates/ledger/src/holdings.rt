@@ -23,7 +23,6 @@ impl Ledger {
 
     /// The kW that the facility at a place holds over all awards given out.
     pub(crate) fn held_in_all(&self, facility: usize) -> u32
-        requires { facility < 64 }
         ensures { result ≡ held_in_all self.now.book.trade facility }
     {
         let awards = self.given_awards();
@@ -49,8 +48,7 @@ impl Award {
 
 /// The kW that the facility at a place holds under an award.
 pub(crate) fn held_under(award: &Award, facility: usize) -> u32
-    requires { facility < 64 }
     ensures { result ≡ held_under facility award.now }
 {
-    award.holdings()[facility]
+    award.holdings().get(facility).copied().unwrap_or(0)
 }

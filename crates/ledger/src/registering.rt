@@ -40,8 +40,14 @@ impl Ledger {
         ensures after { self.new.book ≡ kept_or result (registered self.old.book letter (firm_power modules count access)) self.old.book }
         ensures recorded { (j : Journal) → Recorded j self.old → Recorded (registering letter modules count access result ∷ j) self.new }
     {
-        let number = self.may_register(letter, modules, count, access)?;
-        let firm = firm_power(modules, count, access);
+        let figures = Figures {
+            letter,
+            modules,
+            count,
+            access,
+        };
+        let number = self.may_register(&figures)?;
+        let firm = figures.firm_power();
         let place = self.book.register.count;
         self.book.register.facilities[place] = Facility {
             letter,
@@ -53,35 +59,60 @@ impl Ledger {
     }
 
     /// The number that the facility gets, or why it is not registered.
-    fn may_register(
-        &self,
-        letter: u8,
-        modules: [Module; MOST_MODULES],
-        count: u32,
-        access: u32,
-    ) -> Result<u32, Refusal>
-        ensures { result ≡ judged (register_rows self.now.book letter modules count access) (self.now.book.register.count + 1) }
+    fn may_register(&self, figures: &Figures) -> Result<u32, Refusal>
+        ensures { result ≡ judged (register_rows self.now.book figures.now.letter figures.now.modules figures.now.count figures.now.access) (self.now.book.register.count + 1) }
     {
         turn(self.book.stage, Call::Register)?;
         if self.book.register.count >= MOST_FACILITIES {
             return Err(Refusal::NoRoom);
         }
-        if !right_figures(letter, modules, count, access) {
+        if !figures.are_right() {
             return Err(Refusal::OutOfLimits);
         }
         Ok(self.book.register.count as u32 + 1)
     }
 }
 
-/// Whether registering's figures are within their limits. Modules behind the count are not looked at.
-fn right_figures(letter: u8, modules: [Module; MOST_MODULES], count: u32, access: u32) -> bool
-    ensures { result ≡ right_figures letter modules count access }
-{
-    letter.is_ascii_uppercase()
-        && count >= 1
-        && count as usize <= MOST_MODULES
-        && right_modules(&modules[..count as usize])
-        && access <= MOST_KW
+/// What a facility is registered with. Modules behind the count are not looked at.
+#[derive(Clone, Copy)]
+struct Figures {
+    letter: u8,
+    modules: [Module; MOST_MODULES],
+    count: u32,
+    access: u32,
+}
+
+impl Figures {
+    /// Whether the figures are within their limits.
+    fn are_right(&self) -> bool
+        ensures { result ≡ right_figures self.now.letter self.now.modules self.now.count self.now.access }
+    {
+        self.letter.is_ascii_uppercase()
+            && self.count >= 1
+            && self.count as usize <= MOST_MODULES
+            && right_modules(self.given())
+            && self.access <= MOST_KW
+    }
+
+    /// The lesser of the access and the whole kW that the modules have firm together.
+    fn firm_power(&self) -> u32
+        requires few { self.now.count ≤ 4 }
+        requires right { right_modules (take self.now.count self.now.modules) ≡ true }
+        requires access { self.now.access ≤ 1_000_000 }
+        ensures value { result ≡ firm_power self.now.modules self.now.count self.now.access }
+        ensures bound { result ≤ 1_000_000 }
+    {
+        let kw = watts_together(self.given()) / WATTS;
+        u64::from(self.access).min(kw) as u32
+    }
+
+    /// The modules within the count.
+    fn given(&self) -> &[Module]
+        requires { self.now.count ≤ 4 }
+        ensures { result.now ≡ take self.now.count self.now.modules }
+    {
+        &self.modules[..self.count as usize]
+    }
 }
 
 /// Whether each module's figures are within their limits.
@@ -96,18 +127,6 @@ fn right_module(module: Module) -> bool
     ensures { result ≡ right_module «module» }
 {
     module.installed <= MOST_KW && module.coefficient <= WHOLE
-}
-
-/// The lesser of the access and the whole kW that the modules have firm together.
-fn firm_power(modules: [Module; MOST_MODULES], count: u32, access: u32) -> u32
-    requires few { count ≤ 4 }
-    requires right { right_modules (take count modules) ≡ true }
-    requires access { access ≤ 1_000_000 }
-    ensures value { result ≡ firm_power modules count access }
-    ensures bound { result ≤ 1_000_000 }
-{
-    let kw = watts_together(&modules[..count as usize]) / WATTS;
-    u64::from(access).min(kw) as u32
 }
 
 /// The watts that modules have firm together.

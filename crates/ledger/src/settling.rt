@@ -6,10 +6,8 @@ ghost use Rattle.ledger.specs.Judged.{judged, ruled, kept_or};
 ghost use Rattle.ledger.specs.Settling.{rows_within, limit_rows, shared};
 
 use crate::{LedgerFault, Refusal};
-use sharing::{Row, SharingRule, total_mwh};
+use sharing::{MOST_ROWS, Row, SharingRule, total_mwh};
 
-/// The most rows that a total is shared over.
-const MOST_ROWS: usize = 1_024;
 /// The most MWh that the rows have together.
 const MOST_MWH: u64 = 40_000_000;
 

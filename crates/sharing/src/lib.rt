@@ -14,6 +14,6 @@ mod weighed;
 pub use fault::SharingFault;
 pub use remainder::Remainder;
 pub use rows::{Row, total_mwh};
-pub use rule::SharingRule;
+pub use rule::{MOST_ROWS, SharingRule};
 pub use running::Running;
 pub use split::RunningSplit;

@@ -10,11 +10,8 @@ ghost use Rattle.sharing.specs.RemainderLaws.{remainder_lawful};
 
 use crate::cut::{Cut, LeftOver};
 use crate::weighed::Weighed;
-use crate::{Row, SharingFault, SharingRule};
+use crate::{MOST_ROWS, Row, SharingFault, SharingRule};
 use arrayvec::ArrayVec;
-
-/// The most rows that a total is shared over.
-const MOST_ROWS: usize = 1_024;
 
 /// Shares by the MWh, the cents left over going to the largest remainders.
 #[derive(Clone, Copy)]

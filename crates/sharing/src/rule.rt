@@ -5,6 +5,9 @@ ghost use Rattle.sharing.specs.Rule.{Shareable, Lawful, Shares};
 
 use crate::{Row, SharingFault};
 
+/// The most rows that a total is shared over.
+pub const MOST_ROWS: usize = 1_024;
+
 /// A way to share a month's total. It means two lists made from the total and the rows' MWh: a weight for each row,
 /// and a charge for each row.
 pub trait SharingRule {
