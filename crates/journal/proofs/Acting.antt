@@ -9,8 +9,6 @@ use Rattle.calendar.specs.Filling.{given_runs}
 use Rattle.ledger.specs.declared.course.Call.TheVariants as call
 use Rattle.ledger.specs.declared.kept.Ledger.{Ledger}
 use Rattle.ledger.specs.declared.state.Book.{Book}
-use Rattle.ledger.specs.declared.state.Trade.{Trade}
-use Rattle.ledger.specs.declared.state.Register.{Register}
 use Rattle.ledger.specs.declared.state.Stage.{Stage}
 use Rattle.ledger.specs.declared.state.Stage.TheVariants.{Unopened, Month, Finished}
 use Rattle.ledger.specs.declared.state.Phase.TheVariants.{Trading, Metering, Claims}
@@ -98,9 +96,9 @@ module _ (l : Ledger) (h : List Act) (old : Simulates h l.book) where
         year = refl;
       }) old.trades old.registers
 
-  pub registered_simulates : (letter power : ℕ) → belongs call.Register b.stage ≡ true → b.register.count < 64 → Simulates (registered (b.register.count + 1) letter power ∷ h) (registering.registered b letter power)
+  pub registered_simulates : (letter power : ℕ) → belongs call.Register b.stage ≡ true → length b.register.items < 64 → Simulates (registered (length b.register.items + 1) letter power ∷ h) (registering.registered b letter power)
   registered_simulates letter power in_turn room =
-      let n = b.register.count + 1 in
+      let n = length b.register.items + 1 in
       let act = registered n letter power in
       record {
         calendar = old.calendar;
@@ -114,7 +112,7 @@ module _ (l : Ledger) (h : List Act) (old : Simulates h l.book) where
         year = old.year;
       }
 
-  pub switched_simulates : (f : ℕ) (v : Bool) (m : ℕ) → b.stage ≡ Month m Trading → 0 < f → f ≤ b.register.count → Simulates (switched f v ∷ h) (switching.switched b f v)
+  pub switched_simulates : (f : ℕ) (v : Bool) (m : ℕ) → b.stage ≡ Month m Trading → 0 < f → f ≤ length b.register.items → Simulates (switched f v ∷ h) (switching.switched b f v)
   switched_simulates f v m is from to =
       let act = switched f v in
       record {
@@ -129,10 +127,10 @@ module _ (l : Ledger) (h : List Act) (old : Simulates h l.book) where
         year = old.year;
       }
 
-  pub awarded_simulates : (f kw price : ℕ) → b.stage ≡ Month 1 Trading → Awardable b f kw price → Simulates (awarded (b.trade.count + 1) f kw price ∷ h) (awarding.awarded b f kw price)
+  pub awarded_simulates : (f kw price : ℕ) → b.stage ≡ Month 1 Trading → Awardable b f kw price → Simulates (awarded (length b.trade.items + 1) f kw price ∷ h) (awarding.awarded b f kw price)
   awarded_simulates f kw price is ok =
       let n = count_by is_award h in
-      let number : b.trade.count + 1 ≡ n + 1 = ap (λ x. x + 1) old.trades.count in
+      let number : length b.trade.items + 1 ≡ n + 1 = ap (λ x. x + 1) old.trades.count in
       let now = subst At is old.course in
       subst (λ a. Simulates (awarded a f kw price ∷ h) (awarding.awarded b f kw price)) (sym number) (
       let act = awarded (n + 1) f kw price in

@@ -73,7 +73,7 @@ module _ (h : List Act) (l : Ledger) (says : Simulates h l.book) where
   whole_holds : (a : ℕ) → 1 ≤ a → a ≤ count_by is_award h → sum_by (held h a) facilities ≡ (terms h a).0
   whole_holds a from to =
       let award : a - 1 + 1 ≡ a = omega (arith, from) in
-      let given : a - 1 < b.trade.count = omega (arith, from, to, says.trades.count) in
+      let given : a - 1 < length b.trade.items = omega (arith, from, to, says.trades.count) in
       subst (λ x. sum_by (held h x) facilities ≡ (terms h x).0) award (
       sym (sum-map (held h (a - 1 + 1)) facilities) ∙ ap sum (sym (holdings_by h b.trade says.trades l.wide (a - 1) given)) ∙ l.whole (a - 1) given ∙ says.trades.kws (a - 1) (omega (arith, from, to))
       )

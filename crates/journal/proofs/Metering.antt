@@ -108,7 +108,7 @@ module _ (l : Ledger) (h : List Act) (old : Simulates h l.book) where
       ]
 
   -- a report is taken, or comes with an upheld claim; no line reads the claims
-  pub reported_simulates : (f : ℕ) (x : Reported) (v : Measured) (claims : List Claim) (m : ℕ) (q : Phase) → (q ≡ Metering) ⊎ (q ≡ Claims) → b.stage ≡ Month m q → 0 < f → f ≤ b.register.count → measured_by b f x ≡ Ok v → Simulates (reported f x ∷ h) (with_month b (record { measured = set b.month.measured (f - 1) (Some v); claims = claims }))
+  pub reported_simulates : (f : ℕ) (x : Reported) (v : Measured) (claims : List Claim) (m : ℕ) (q : Phase) → (q ≡ Metering) ⊎ (q ≡ Claims) → b.stage ≡ Month m q → 0 < f → f ≤ length b.register.items → measured_by b f x ≡ Ok v → Simulates (reported f x ∷ h) (with_month b (record { measured = set b.month.measured (f - 1) (Some v); claims = claims }))
   reported_simulates f x v claims m q after is from to taken = record {
     calendar = old.calendar;
     numbers = old.numbers;

@@ -4,17 +4,16 @@ use Rattle.std.proofs.lemmas.List.{get_or-set_same, get_or-set_other}
 use Rattle.std.proofs.lemmas.Bool.{cases_eq, cond-true, cond-false, eq-eqb, ne_eqb}
 use Rattle.ledger.specs.declared.state.Book.{Book}
 use Rattle.ledger.specs.declared.state.Facility.{Facility}
-use Rattle.ledger.specs.declared.state.Register.{Register}
 use Rattle.ledger.specs.Form.{no_facility, facility_at}
 use Rattle.ledger.specs.Registering.{registered}
 use Rattle.ledger.specs.Switching.{set_on, switched}
 
 -- n facilities of this firm power, on or off; numbers from 1
 pub record Registers (n : ℕ) (firm : ℕ → ℕ) (on : ℕ → Bool) (r : Register) : Type 0 where
-  pub count : r.count ≡ n
+  pub count : length r.items ≡ n
   pub firms : (i : ℕ) → (facility_at r i).firm ≡ firm (i + 1)
   pub switches : (i : ℕ) → (facility_at r i).on ≡ on (i + 1)
-  pub off : (f : ℕ) → r.count < f → on f ≡ false
+  pub off : (f : ℕ) → length r.items < f → on f ≡ false
 
 -- a figure of every place, where one place is changed
 figure_set : {A : Type 0} (xs : List Facility) (place : ℕ) (x : Facility) (g : Facility → A) (new : A) (old : ℕ → A) → place < length xs → g x ≡ new → ((i : ℕ) → i ≢ place → g (get_or xs i no_facility) ≡ old (i + 1)) → (i : ℕ) → g (get_or (set xs place x) i no_facility) ≡ cond (eqb (i + 1) (place + 1)) new (old (i + 1))
@@ -25,10 +24,10 @@ figure_set xs place x g new old inside here there i =
 
 module _ (n : ℕ) (firm : ℕ → ℕ) (on : ℕ → Bool) (b : Book) (old : Registers n firm on b.register) where
   -- one facility more, switched off
-  pub registered_registers : (letter power : ℕ) → b.register.count < length b.register.facilities → Registers (n + 1) (λ f. cond (eqb f (b.register.count + 1)) power (firm f)) on (registered b letter power).register
+  pub registered_registers : (letter power : ℕ) → length b.register.items < length b.register.items → Registers (n + 1) (λ f. cond (eqb f (length b.register.items + 1)) power (firm f)) on (registered b letter power).register
   registered_registers letter power room =
-      let place = b.register.count in
-      let xs = b.register.facilities in
+      let place = length b.register.items in
+      let xs = b.register.items in
       let new : Facility = record { letter = letter; firm = power; on = false } in
       record {
         count = ap (λ x. x + 1) old.count;
@@ -41,9 +40,9 @@ module _ (n : ℕ) (firm : ℕ → ℕ) (on : ℕ → Bool) (b : Book) (old : Re
       }
 
   -- one facility switched, and no other
-  pub switched_registers : (f : ℕ) (v : Bool) → 0 < f → f ≤ b.register.count → f ≤ length b.register.facilities → Registers n firm (λ g. cond (eqb g f) v (on g)) (switched b f v).register
+  pub switched_registers : (f : ℕ) (v : Bool) → 0 < f → f ≤ length b.register.items → f ≤ length b.register.items → Registers n firm (λ g. cond (eqb g f) v (on g)) (switched b f v).register
   switched_registers f v from to inside =
-      let xs = b.register.facilities in
+      let xs = b.register.items in
       let new = set_on (facility_at b.register (f - 1)) v in
       let place : f - 1 + 1 ≡ f = omega (arith, from) in
       record {

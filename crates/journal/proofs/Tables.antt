@@ -47,7 +47,7 @@ only_claims Claims is-so = refl
 -- registering belongs to every phase, and there is room
 pub record Registrable (b : Book) : Type 0 where
   pub in_turn : belongs call.Register b.stage ≡ true
-  pub room : b.register.count < 64
+  pub room : length b.register.items < 64
 
 pub registrable : (b : Book) (letter : ℕ) (modules : List Module) (count access n v : ℕ) → judged (register_rows b letter modules count access) n ≡ Ok v → Registrable b
 registrable b letter modules count access n v accepted = record { in_turn = grind (arith, nat_tests); room = grind (arith, nat_tests) }
@@ -57,7 +57,7 @@ pub record Switchable (b : Book) (f : ℕ) : Type 0 where
   pub month : ℕ
   pub stage : b.stage ≡ Month month Trading
   pub from_one : 0 < f
-  pub given : f ≤ b.register.count
+  pub given : f ≤ length b.register.items
 
 pub switchable : (b : Book) (f : ℕ) → judged {A = Unit {0}} (switch_rows b f) tt ≡ Ok tt → Switchable b f
 switchable b f accepted =
@@ -93,7 +93,7 @@ pub record Reportable (b : Book) (q : Phase) (f : ℕ) : Type 0 where
   pub month : ℕ
   pub stage : b.stage ≡ Month month q
   pub from_one : 0 < f
-  pub given : f ≤ b.register.count
+  pub given : f ≤ length b.register.items
 
 pub reportable : (b : Book) (f letter : ℕ) → judged {A = Unit {0}} (letter_rows call.Report b f letter) tt ≡ Ok tt → Reportable b Metering f
 reportable b f letter accepted =

@@ -103,7 +103,7 @@ module _ (l : Ledger) (j : Journal) (old : Simulates (acts j) l.book) where
 
   registering_step : (letter : ℕ) (modules : List Module) (count access f : ℕ) (b' : Book) → Allowed b (registering letter modules count access (Ok f)) b' → Simulates (acts (registering letter modules count access (Ok f) ∷ j)) b'
   registering_step letter modules count access f b' t =
-      let n = b.register.count + 1 in
+      let n = length b.register.items + 1 in
       let power = firm_power modules count access in
       let accepted = accepted_by (register_rows b letter modules count access) n f (sym t.0) in
       let ok = registrable b letter modules count access n n accepted.0 in
@@ -116,7 +116,7 @@ module _ (l : Ledger) (j : Journal) (old : Simulates (acts j) l.book) where
 
   awarding_step : (f kw price a : ℕ) (b' : Book) → Allowed b (awarding f kw price (Ok a)) b' → Simulates (acts (awarding f kw price (Ok a) ∷ j)) b'
   awarding_step f kw price a b' t =
-      let n = b.trade.count + 1 in
+      let n = length b.trade.items + 1 in
       let accepted = accepted_by (award_rows b f kw price) n a (sym t.0) in
       same_book _ _ b' t.1 (subst (λ x. Simulates (awarded x f kw price ∷ acts j) (awarded-in b f kw price)) (sym accepted.1) (awarded_simulates l (acts j) old f kw price (award_stage b f kw price n n accepted.0) (awardable b f kw price n n accepted.0)))
 

@@ -4,7 +4,6 @@ use Rattle.std.proofs.Common.{◌≡◌, ℕ, ◌+◌, ◌-◌, ◌<◌, ◌≤�
 use Rattle.std.proofs.lemmas.List.{get_or-set_same, get_or-set_other, length-set}
 use Rattle.std.proofs.lemmas.Bool.{cases_eq, cond-true, cond-false, eq-eqb, ne_eqb, and_left, and_right, and_from}
 use Rattle.ledger.specs.declared.state.Book.{Book}
-use Rattle.ledger.specs.declared.state.Trade.{Trade}
 use Rattle.ledger.specs.declared.state.Award.{Award}
 use Rattle.ledger.specs.Form.{no_award, award_at, holdings, held_under, Wide}
 use Rattle.ledger.specs.Awarding.{new_award, awarded}
@@ -14,7 +13,7 @@ use Rattle.ledger.proofs.Traded.{Awardable, Cedable}
 
 -- n awards, of these kW and prices, with the kW that each facility was brought and lost under each; numbers from 1
 pub record Trades (n : ℕ) (kw price : ℕ → ℕ) (brought lost : ℕ → ℕ → ℕ) (t : Trade) : Type 0 where
-  pub count : t.count ≡ n
+  pub count : length t.items ≡ n
   pub kws : (i : ℕ) → i < n → (award_at t i).kw ≡ kw (i + 1)
   pub prices : (i : ℕ) → i < n → (award_at t i).price ≡ price (i + 1)
   pub held : (i f : ℕ) → i < n → f < 64 → held_under f (award_at t i) + lost (i + 1) (f + 1) ≡ brought (i + 1) (f + 1)
@@ -39,18 +38,18 @@ new_held f kw price g from to =
     (λ same. ap (λ x. get_or (set (replicate 64 0) (f - 1) kw) x 0) same ∙ get_or-set_same (replicate 64 0) (f - 1) kw 0 (omega arith) ∙ sym (cond-true (eqb (g + 1) f) kw 0 (eq-eqb (g + 1) f (omega (arith, same)))))
     (λ other. get_or-set_other (replicate 64 0) (f - 1) g kw 0 other ∙ same_at 64 g 0 ∙ sym (cond-false (eqb (g + 1) f) kw 0 (ne_eqb (g + 1) f (λ is. other (omega (arith, is)))))) (cases_eq g (f - 1))
 
-module _ (n : ℕ) (kw price : ℕ → ℕ) (brought lost : ℕ → ℕ → ℕ) (b : Book) (f k p : ℕ) (ok : Awardable b f k p) (few : b.register.count ≤ 64) (long : length b.trade.awards ≡ 32) (old : Trades n kw price brought lost b.trade) where
+module _ (n : ℕ) (kw price : ℕ → ℕ) (brought lost : ℕ → ℕ → ℕ) (b : Book) (f k p : ℕ) (ok : Awardable b f k p) (few : length b.register.items ≤ 64) (long : length b.trade.items ≡ 32) (old : Trades n kw price brought lost b.trade) where
   -- the place of the new award lies among the places
-  inside : b.trade.count < length b.trade.awards
+  inside : length b.trade.items < length b.trade.items
   inside = omega (arith, ok.room, long)
 
   -- what stands there
   here : (i : ℕ) → i ≡ n → award_at (awarded b f k p).trade i ≡ new_award f k p
-  here i is = ap (λ x. get_or (set b.trade.awards b.trade.count (new_award f k p)) x no_award) (is ∙ sym old.count) ∙ get_or-set_same b.trade.awards b.trade.count (new_award f k p) no_award inside
+  here i is = ap (λ x. get_or (set b.trade.items (length b.trade.items) (new_award f k p)) x no_award) (is ∙ sym old.count) ∙ get_or-set_same b.trade.items (length b.trade.items) (new_award f k p) no_award inside
 
   -- and at every other place
   there : (i : ℕ) → i ≢ n → award_at (awarded b f k p).trade i ≡ award_at b.trade i
-  there i other = get_or-set_other b.trade.awards b.trade.count i (new_award f k p) no_award (λ is. other (is ∙ old.count))
+  there i other = get_or-set_other b.trade.items (length b.trade.items) i (new_award f k p) no_award (λ is. other (is ∙ old.count))
 
   -- one award more, all of whose kW the facility f was brought
   pub awarded_trades : Trades (n + 1) (λ a. cond (eqb a (n + 1)) k (kw a)) (λ a. cond (eqb a (n + 1)) p (price a)) (λ a g. cond (eqb a (n + 1) && eqb g f) k 0 + brought a g) lost (awarded b f k p).trade
@@ -105,18 +104,18 @@ shift_held held giver taker k g from to from' to' differ enough =
     let not-given = cond-false (eqb (g + 1) giver) k 0 (ne_eqb (g + 1) giver (λ same. not-giver (omega (arith, same)))) in
     omega (arith, kept, same_held, not-given, not_taken)) (cases_eq g (giver - 1))) (cases_eq g (taker - 1))
 
-module _ (n : ℕ) (kw price : ℕ → ℕ) (brought lost : ℕ → ℕ → ℕ) (b : Book) (a giver taker k : ℕ) (ok : Cedable b a giver taker k) (few : b.register.count ≤ 64) (long : b.trade.count ≤ length b.trade.awards) (wide : Wide b.trade) (old : Trades n kw price brought lost b.trade) where
+module _ (n : ℕ) (kw price : ℕ → ℕ) (brought lost : ℕ → ℕ → ℕ) (b : Book) (a giver taker k : ℕ) (ok : Cedable b a giver taker k) (few : length b.register.items ≤ 64) (long : length b.trade.items ≤ length b.trade.items) (wide : Wide b.trade) (old : Trades n kw price brought lost b.trade) where
   -- the award, as it is left
   abbrev left_award : Award
   left_award = with_held (award_at b.trade (a - 1)) (shifted (holdings (award_at b.trade (a - 1))) (giver - 1) (taker - 1) k)
 
   -- what stands at its place
   at_award : (i : ℕ) → i ≡ a - 1 → award_at (ceded b a giver taker k).trade i ≡ left_award
-  at_award i is = ap (λ x. get_or (set b.trade.awards (a - 1) left_award) x no_award) is ∙ get_or-set_same b.trade.awards (a - 1) left_award no_award (omega (arith, ok.award_from, ok.award_to, long))
+  at_award i is = ap (λ x. get_or (set b.trade.items (a - 1) left_award) x no_award) is ∙ get_or-set_same b.trade.items (a - 1) left_award no_award (omega (arith, ok.award_from, ok.award_to, long))
 
   -- and at every other place
   at_others : (i : ℕ) → i ≢ a - 1 → award_at (ceded b a giver taker k).trade i ≡ award_at b.trade i
-  at_others i other = get_or-set_other b.trade.awards (a - 1) i left_award no_award other
+  at_others i other = get_or-set_other b.trade.items (a - 1) i left_award no_award other
 
   -- a figure that a cession leaves
   figure : (g : Award → ℕ) → g left_award ≡ g (award_at b.trade (a - 1)) → (i : ℕ) → g (award_at (ceded b a giver taker k).trade i) ≡ g (award_at b.trade i)
