@@ -1,5 +1,5 @@
 -- The ledger that an accepted call leaves: its book keeps what every book keeps. Assumes nothing.
-use Rattle.std.proofs.Common.{◌≡◌, ℕ, ◌-◌, ◌<◌, ◌≤◌, Bool, List, length, Option, refl, ◌∙◌, arith, lit≤}
+use Rattle.std.proofs.Common.{◌≡◌, ℕ, ◌-◌, ◌<◌, ◌≤◌, Bool, false, List, length, Option, refl, ◌∙◌, arith, lit≤}
 use Rattle.std.proofs.lemmas.List.{length-set, length_push}
 use Rattle.calendar.specs.declared.year.Calendar.{Calendar}
 use Rattle.metering.specs.declared.measuring.Measured.{Measured}
@@ -90,7 +90,7 @@ module _ (l : Ledger) where
 
   pub registered_kept : (letter power : ℕ) → length b.register.items < 64 → power ≤ 1_000_000 → Kept (registered b letter power)
   registered_kept letter power room few = record {
-    sized = (omega (arith, room, length_push b.register.items (record { letter = letter; firm = power; on = mathlib.Core.Bool.false })), l.sized.1);
+    sized = (omega (arith, room, length_push b.register.items (record { letter = letter; firm = power; on = false })), l.sized.1);
     shaped = l.shaped;
     wide = l.wide;
     lined = l.lined;
