@@ -1,6 +1,6 @@
 -- Opening, registering, switching, awarding and ceding: the book has what the journal says with that act on top. Assumes
 -- nothing.
-use Rattle.std.proofs.Common.{◌≡◌, ℕ, ◌+◌, ◌<◌, ◌≤◌, Bool, true, false, eqb, List, [], ◌∷◌, count_by, sym, refl, ap, ◌∙◌, subst, arith}
+use Rattle.std.proofs.Common.{◌≡◌, ℕ, ◌+◌, ◌<◌, ◌≤◌, Bool, true, false, eqb, List, [], ◌∷◌, length, count_by, sym, refl, ap, ◌∙◌, subst, arith}
 use Rattle.std.proofs.lemmas.List.Sums.{sum_by-cons}
 use Rattle.std.proofs.lemmas.Bool.{false≢true}
 use Rattle.calendar.specs.declared.year.Calendar.{Calendar}
@@ -9,11 +9,10 @@ use Rattle.calendar.specs.Filling.{given_runs}
 use Rattle.ledger.specs.declared.course.Call.TheVariants as call
 use Rattle.ledger.specs.declared.kept.Ledger.{Ledger}
 use Rattle.ledger.specs.declared.state.Book.{Book}
-use Rattle.ledger.specs.declared.state.Trade.{Trade}
-use Rattle.ledger.specs.declared.state.Register.{Register}
 use Rattle.ledger.specs.declared.state.Stage.{Stage}
 use Rattle.ledger.specs.declared.state.Stage.TheVariants.{Unopened, Month, Finished}
 use Rattle.ledger.specs.declared.state.Phase.TheVariants.{Trading, Metering, Claims}
+use Rattle.ledger.specs.Form.{Register, Trade}
 use Rattle.ledger.specs.Course.{unopened, belongs, moved}
 use Rattle.ledger.specs.Amounts.{earned}
 use Rattle.ledger.specs.Opening as opening
@@ -98,15 +97,15 @@ module _ (l : Ledger) (h : List Act) (old : Simulates h l.book) where
         year = refl;
       }) old.trades old.registers
 
-  pub registered_simulates : (letter power : ℕ) → belongs call.Register b.stage ≡ true → b.register.count < 64 → Simulates (registered (b.register.count + 1) letter power ∷ h) (registering.registered b letter power)
-  registered_simulates letter power in_turn room =
-      let n = b.register.count + 1 in
+  pub registered_simulates : (letter power : ℕ) → belongs call.Register b.stage ≡ true → Simulates (registered (length b.register.items + 1) letter power ∷ h) (registering.registered b letter power)
+  registered_simulates letter power in_turn =
+      let n = length b.register.items + 1 in
       let act = registered n letter power in
       record {
         calendar = old.calendar;
         numbers = (ap (λ x. x + 1) old.registers.count, old.numbers);
         trades = old.trades;
-        registers = registers_alike _ _ _ _ _ _ _ (sym (one_more is_registering act h refl)) (λ f. sym (told_figure (λ x. x) (eqb f n) power (latest (firm_of f) h) 0)) (λ f. refl) (registered_registers _ _ _ b old.registers letter power (omega (arith, room, l.shaped.0)));
+        registers = registers_alike _ _ _ _ _ _ _ (sym (one_more is_registering act h refl)) (λ f. sym (told_figure (λ x. x) (eqb f n) power (latest (firm_of f) h) 0)) (λ f. refl) (registered_registers _ _ _ b old.registers letter power);
         course = in_any_phase b.stage _ _ _ _ _ _ _ _ in_turn (λ m z. record { trade = z.trade; switches = z.switches; nth = z.nth; results = z.results }) old.course;
         lines = old.lines;
         cut_offs = old.cut_offs;
@@ -114,14 +113,14 @@ module _ (l : Ledger) (h : List Act) (old : Simulates h l.book) where
         year = old.year;
       }
 
-  pub switched_simulates : (f : ℕ) (v : Bool) (m : ℕ) → b.stage ≡ Month m Trading → 0 < f → f ≤ b.register.count → Simulates (switched f v ∷ h) (switching.switched b f v)
+  pub switched_simulates : (f : ℕ) (v : Bool) (m : ℕ) → b.stage ≡ Month m Trading → 0 < f → f ≤ length b.register.items → Simulates (switched f v ∷ h) (switching.switched b f v)
   switched_simulates f v m is from to =
       let act = switched f v in
       record {
         calendar = old.calendar;
         numbers = old.numbers;
         trades = old.trades;
-        registers = registers_alike _ _ _ _ _ _ _ refl (λ g. refl) (λ g. sym (told_figure (λ x. x) (eqb g f) v (latest (switch_of g) h) false)) (switched_registers _ _ _ b old.registers f v from to (omega (arith, to, l.sized.0, l.shaped.0)));
+        registers = registers_alike _ _ _ _ _ _ _ refl (λ g. refl) (λ g. sym (told_figure (λ x. x) (eqb g f) v (latest (switch_of g) h) false)) (switched_registers _ _ _ b old.registers f v from to);
         course = subst (CourseBy (act ∷ h) b.calendar b.month.measured) (sym is) (subst At is old.course);
         lines = old.lines;
         cut_offs = old.cut_offs;
@@ -129,14 +128,14 @@ module _ (l : Ledger) (h : List Act) (old : Simulates h l.book) where
         year = old.year;
       }
 
-  pub awarded_simulates : (f kw price : ℕ) → b.stage ≡ Month 1 Trading → Awardable b f kw price → Simulates (awarded (b.trade.count + 1) f kw price ∷ h) (awarding.awarded b f kw price)
+  pub awarded_simulates : (f kw price : ℕ) → b.stage ≡ Month 1 Trading → Awardable b f kw price → Simulates (awarded (length b.trade.items + 1) f kw price ∷ h) (awarding.awarded b f kw price)
   awarded_simulates f kw price is ok =
       let n = count_by is_award h in
-      let number : b.trade.count + 1 ≡ n + 1 = ap (λ x. x + 1) old.trades.count in
+      let number : length b.trade.items + 1 ≡ n + 1 = ap (λ x. x + 1) old.trades.count in
       let now = subst At is old.course in
       subst (λ a. Simulates (awarded a f kw price ∷ h) (awarding.awarded b f kw price)) (sym number) (
       let act = awarded (n + 1) f kw price in
-      let made = awarded_trades _ _ _ _ _ b f kw price ok l.sized.0 l.shaped.1 old.trades in
+      let made = awarded_trades _ _ _ _ _ b f kw price ok l.sized.0 old.trades in
       record {
         calendar = old.calendar;
         numbers = (refl, old.numbers);
@@ -152,7 +151,7 @@ module _ (l : Ledger) (h : List Act) (old : Simulates h l.book) where
   pub ceded_simulates : (a giver taker kw m : ℕ) → b.stage ≡ Month m Trading → Cedable b a giver taker kw → Simulates (ceded a giver taker kw ∷ h) (ceding.ceded b a giver taker kw)
   ceded_simulates a giver taker kw m is ok =
       let act = ceded a giver taker kw in
-      let moved-kw = ceded_trades _ _ _ _ _ b a giver taker kw ok l.sized.0 (omega (arith, l.sized.1, l.shaped.1)) l.wide old.trades in
+      let moved-kw = ceded_trades _ _ _ _ _ b a giver taker kw ok l.sized.0 l.wide old.trades in
       record {
         calendar = old.calendar;
         numbers = old.numbers;

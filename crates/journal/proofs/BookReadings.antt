@@ -1,5 +1,5 @@
 -- What the readings of a book answer for numbers that were given out and months that are closed. Assumes nothing.
-use Rattle.std.proofs.Common.{◌≡◌, ℕ, ◌-◌, ◌≤◌, Bool, true, false, not, ◌&&◌, leb, [], ◌∷◌, Ok, Err, Result, refl, ◌∙◌, arith}
+use Rattle.std.proofs.Common.{◌≡◌, ℕ, ◌-◌, ◌≤◌, Bool, true, false, not, ◌&&◌, leb, [], ◌∷◌, length, Ok, Err, Result, refl, ◌∙◌, arith}
 use Rattle.std.proofs.lemmas.Bool.{and_from, cond-true, cond-false, le-leb, not_from_true}
 use Rattle.ledger.specs.declared.refusal.Refusal.{Refusal}
 use Rattle.ledger.specs.declared.refusal.Refusal.TheVariants as refusal
@@ -24,8 +24,8 @@ pub booked_is : (b : Book) (m f : ℕ) → 1 ≤ m → m ≤ closed_months b.sta
 booked_is b m f from to first last = cond-true (given_out m (closed_months b.stage) && given_out f 64) (booked_line b m f) no_line (and_from (given_out m (closed_months b.stage)) (given_out f 64) (given m (closed_months b.stage) from to) (given f 64 first last))
 
 -- a holding of an award and a facility that were given out
-pub holding_is : (b : Book) (a f : ℕ) → 1 ≤ a → a ≤ b.trade.count → 1 ≤ f → f ≤ b.register.count → holding_at b a f ≡ held_under (f - 1) (award_at b.trade (a - 1))
-holding_is b a f from to first last = cond-true (given_out a b.trade.count && given_out f b.register.count) (held_under (f - 1) (award_at b.trade (a - 1))) 0 (and_from (given_out a b.trade.count) (given_out f b.register.count) (given a b.trade.count from to) (given f b.register.count first last))
+pub holding_is : (b : Book) (a f : ℕ) → 1 ≤ a → a ≤ length b.trade.items → 1 ≤ f → f ≤ length b.register.items → holding_at b a f ≡ held_under (f - 1) (award_at b.trade (a - 1))
+holding_is b a f from to first last = cond-true (given_out a (length b.trade.items) && given_out f (length b.register.items)) (held_under (f - 1) (award_at b.trade (a - 1))) 0 (and_from (given_out a (length b.trade.items)) (given_out f (length b.register.items)) (given a (length b.trade.items) from to) (given f (length b.register.items) first last))
 
 -- where a month is closed, the year was opened
 opened_then : (s : Stage) → 1 ≤ closed_months s → unopened s ≡ false
@@ -38,11 +38,11 @@ row_over : (t : Bool) (e : Refusal) (rows : Rows) (answer : Result Line LedgerFa
 row_over t e rows answer no-case = cond-false t (Err (fault.Own e)) (ruled rows answer) no-case
 
 -- reading the line of a closed month and a facility given out answers what is booked
-pub read_line : (b : Book) (m f : ℕ) → 1 ≤ m → m ≤ closed_months b.stage → 1 ≤ f → f ≤ b.register.count → ruled (line_rows b m f) (Ok (booked_line b m f)) ≡ Ok (booked_line b m f)
+pub read_line : (b : Book) (m f : ℕ) → 1 ≤ m → m ≤ closed_months b.stage → 1 ≤ f → f ≤ length b.register.items → ruled (line_rows b m f) (Ok (booked_line b m f)) ≡ Ok (booked_line b m f)
 read_line b m f from to first last =
     let answer : Result Line LedgerFault = Ok (booked_line b m f) in
-    let facility = not (given_out f b.register.count) in
+    let facility = not (given_out f (length b.register.items)) in
     let month = not (given_out m (closed_months b.stage)) in
     row_over (unopened b.stage) refusal.NotOpened ((facility, refusal.NoFacility) ∷ (month, refusal.NotClosed) ∷ []) answer (opened_then b.stage (omega (arith, from, to)))
-    ∙ row_over facility refusal.NoFacility ((month, refusal.NotClosed) ∷ []) answer (not_from_true (given_out f b.register.count) (given f b.register.count first last))
+    ∙ row_over facility refusal.NoFacility ((month, refusal.NotClosed) ∷ []) answer (not_from_true (given_out f (length b.register.items)) (given f (length b.register.items) first last))
     ∙ row_over month refusal.NotClosed [] answer (not_from_true (given_out m (closed_months b.stage)) (given m (closed_months b.stage) from to))

@@ -1,11 +1,10 @@
 -- The law of the journal holds of every ledger and every journal recorded of it, at each point of the journal. Assumes
 -- nothing.
-use Rattle.std.proofs.Common.{◌≡◌, ℕ, ◌+◌, ◌-◌, ◌<◌, ◌≤◌, List, [], ◌∷◌, map, Ok, sum_by, sum, count_by, Option, sym, ap, ◌∙◌, subst, arith}
+use Rattle.std.proofs.Common.{◌≡◌, ℕ, ◌+◌, ◌-◌, ◌<◌, ◌≤◌, List, [], ◌∷◌, length, Ok, sum_by, sum, count_by, Option, sym, ap, ◌∙◌, subst, arith}
 use mathlib.Core.Path.{fun_ext}
 use Rattle.std.specs.List.{range_with_len}
-use Rattle.std.proofs.lemmas.List.{take_all}
 use Rattle.std.proofs.lemmas.List.Sums.{sum-map}
-use Rattle.std.proofs.lemmas.List.FromFn.{get_or-map-range_with_len, length-map-range_with_len}
+use Rattle.std.proofs.lemmas.List.FromFn.{get_or-map-range_with_len}
 use Rattle.calendar.specs.declared.year.Calendar.{Calendar}
 use Rattle.metering.specs.declared.measuring.Measured.{Measured}
 use Rattle.ledger.specs.declared.kept.Ledger.{Ledger}
@@ -21,11 +20,11 @@ use Rattle.ledger.specs.Entries.{Journal}
 use Rattle.ledger.specs.Runs.{Recorded, made, noted}
 use Rattle.ledger.proofs.CountingSums.{sum_by-map}
 use Rattle.journal.specs.Acts.{Act, acts, is_award, is_registering, is_closing, brought, lost}
-use Rattle.journal.specs.Law.{facilities, held, terms, firm, on, award_by, trade_by, line, Staged, Holds, Law, Points}
+use Rattle.journal.specs.Law.{facilities, held, terms, firm, on, award_by, line, Staged, Holds, Law, Points}
 use Rattle.journal.proofs.Bounded.{line_bounded}
 use Rattle.journal.proofs.Balance.{balance}
 use Rattle.journal.proofs.BookReadings.{read_line, holding_is}
-use Rattle.journal.proofs.Alike.{award_same, holdings_by, same_held, trade_by_long}
+use Rattle.journal.proofs.Alike.{holdings_by, trade_is}
 use Rattle.journal.proofs.Simulation.{Course, CourseBy, Simulates}
 use Rattle.journal.proofs.Theorem.{simulated}
 
@@ -73,7 +72,7 @@ module _ (h : List Act) (l : Ledger) (says : Simulates h l.book) where
   whole_holds : (a : ℕ) → 1 ≤ a → a ≤ count_by is_award h → sum_by (held h a) facilities ≡ (terms h a).0
   whole_holds a from to =
       let award : a - 1 + 1 ≡ a = omega (arith, from) in
-      let given : a - 1 < b.trade.count = omega (arith, from, to, says.trades.count) in
+      let given : a - 1 < length b.trade.items = omega (arith, from, to, says.trades.count) in
       subst (λ x. sum_by (held h x) facilities ≡ (terms h x).0) award (
       sym (sum-map (held h (a - 1 + 1)) facilities) ∙ ap sum (sym (holdings_by h b.trade says.trades l.wide (a - 1) given)) ∙ l.whole (a - 1) given ∙ says.trades.kws (a - 1) (omega (arith, from, to))
       )
@@ -84,8 +83,7 @@ module _ (h : List Act) (l : Ledger) (says : Simulates h l.book) where
   held_in_all_by f first last =
       let n = count_by is_award h in
       let each : (a : ℕ) → held_under (f - 1) (award_by h a) ≡ held h a f = λ a. get_or-map-range_with_len (held h a) 1 64 (f - 1) f 0 (omega (arith, first, last)) (omega (arith, first)) in
-      same_held b.trade (trade_by h) says.trades.count (omega (arith, l.sized.1, l.shaped.1)) (trade_by_long h) (award_same h b.trade says.trades l.wide) (f - 1)
-      ∙ ap (sum_by (held_under (f - 1))) (take_all n (map (award_by h) (range_with_len 1 n)) (omega (arith, length-map-range_with_len (award_by h) 1 n)))
+      ap (λ t. held_in_all t (f - 1)) (trade_is h b.trade says.trades l.wide)
       ∙ sum_by-map (held_under (f - 1)) (award_by h) (range_with_len 1 n)
       ∙ ap (λ g. sum_by g (range_with_len 1 n)) (fun_ext each)
 

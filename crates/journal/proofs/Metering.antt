@@ -25,7 +25,7 @@ use Rattle.ledger.specs.Advancing as advancing
 use Rattle.journal.specs.Acts.{Act, cut, reported, advanced, is_cut, is_advance, told, before, before_nth}
 use Rattle.journal.specs.Law.{trade_by, standing, result, Charged}
 use Rattle.journal.proofs.LatestActs.{one_more}
-use Rattle.journal.proofs.Alike.{award_same, same_held, trade_by_long}
+use Rattle.journal.proofs.Alike.{trade_is}
 use Rattle.journal.proofs.Simulation.{Unreported, ResultsBy, CutOff, CourseBy, Simulates}
 
 -- what the reports that stand come to, where one more does
@@ -87,14 +87,14 @@ module _ (l : Ledger) (h : List Act) (old : Simulates h l.book) where
   came_to m f x v is z taken =
       let t = b.trade in
       let same : held_in_all t (f - 1) ≡ held_in_all (trade_by (before is_cut h)) (f - 1) =
-      same_held t (trade_by h) old.trades.count (omega (arith, l.sized.1, l.shaped.1)) (trade_by_long h) (award_same h t old.trades l.wide) (f - 1) ∙ ap (λ u. held_in_all u (f - 1)) z.trade in
+      ap (λ u. held_in_all u (f - 1)) (trade_is h t old.trades l.wide ∙ z.trade) in
       let measures : ℕ → ℕ → _ = λ n k. measuring x.shortest x.longest (λ credit kw. credit kw) b.calendar n k x.credits x.test in
       ap (λ r. elim r [ Ok w ↦ w | Err e ↦ unreported_in b.calendar m ]) (ap (measures m) (sym same) ∙ ap (λ n. measures n (held_in_all t (f - 1))) (sym is) ∙ taken)
 
   -- the course with one more report in a month that is cut off
   reported_course : (f : ℕ) (x : Reported) (v : Measured) (m : ℕ) (q : Phase) → (q ≡ Metering) ⊎ (q ≡ Claims) → b.stage ≡ Month m q → 0 < f → f ≤ 64 → measured_by b f x ≡ Ok v → CourseBy (reported f x ∷ h) b.calendar (set b.month.measured (f - 1) (Some v)) b.stage
   reported_course f x v m q after is from to taken =
-      let more : CutOff h b.calendar b.month.measured m → CutOff (reported f x ∷ h) b.calendar (set b.month.measured (f - 1) (Some v)) m = λ z. cut_off_more h b.calendar b.month.measured m f x v from to l.shaped.2 (came_to m f x v (ap month_of is) z taken) z in
+      let more : CutOff h b.calendar b.month.measured m → CutOff (reported f x ∷ h) b.calendar (set b.month.measured (f - 1) (Some v)) m = λ z. cut_off_more h b.calendar b.month.measured m f x v from to l.shaped.0 (came_to m f x v (ap month_of is) z taken) z in
       let next : Stage → Type 0 = CourseBy (reported f x ∷ h) b.calendar (set b.month.measured (f - 1) (Some v)) in
       elim after [
         | inl metering ↦
@@ -108,7 +108,7 @@ module _ (l : Ledger) (h : List Act) (old : Simulates h l.book) where
       ]
 
   -- a report is taken, or comes with an upheld claim; no line reads the claims
-  pub reported_simulates : (f : ℕ) (x : Reported) (v : Measured) (claims : List Claim) (m : ℕ) (q : Phase) → (q ≡ Metering) ⊎ (q ≡ Claims) → b.stage ≡ Month m q → 0 < f → f ≤ b.register.count → measured_by b f x ≡ Ok v → Simulates (reported f x ∷ h) (with_month b (record { measured = set b.month.measured (f - 1) (Some v); claims = claims }))
+  pub reported_simulates : (f : ℕ) (x : Reported) (v : Measured) (claims : List Claim) (m : ℕ) (q : Phase) → (q ≡ Metering) ⊎ (q ≡ Claims) → b.stage ≡ Month m q → 0 < f → f ≤ length b.register.items → measured_by b f x ≡ Ok v → Simulates (reported f x ∷ h) (with_month b (record { measured = set b.month.measured (f - 1) (Some v); claims = claims }))
   reported_simulates f x v claims m q after is from to taken = record {
     calendar = old.calendar;
     numbers = old.numbers;

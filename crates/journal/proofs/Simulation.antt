@@ -5,11 +5,10 @@ use Rattle.calendar.specs.declared.year.Calendar.{Calendar}
 use Rattle.metering.specs.declared.measuring.Measured.{Measured}
 use Rattle.ledger.specs.declared.state.Book.{Book}
 use Rattle.ledger.specs.declared.state.Line.{Line}
-use Rattle.ledger.specs.declared.state.Register.{Register}
 use Rattle.ledger.specs.declared.state.Stage.{Stage}
 use Rattle.ledger.specs.declared.state.Stage.TheVariants.{Unopened, Month, Finished}
 use Rattle.ledger.specs.declared.state.Phase.TheVariants.{Trading, Metering, Claims}
-use Rattle.ledger.specs.Form.{held_in_all}
+use Rattle.ledger.specs.Form.{Register, held_in_all}
 use Rattle.ledger.specs.Booking.{unreported_in}
 use Rattle.journal.specs.Acts.{Act, is_registering, is_cut, is_advance, is_closing, before, before_nth}
 use Rattle.journal.specs.Law.{trade_by, firm, on, standing, result, line, all_lines, earned_by, Charges, Numbered, Opened}

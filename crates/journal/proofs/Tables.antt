@@ -1,5 +1,5 @@
 -- What an accepted call tells of the book that it was made on, a name for each fact. Assumes nothing.
-use Rattle.std.proofs.Common.{◌≡◌, ℕ, ◌<◌, ◌≤◌, true, eqb, List, Ok, refl, ap, arith}
+use Rattle.std.proofs.Common.{◌≡◌, ℕ, ◌<◌, ◌≤◌, true, eqb, List, length, Ok, refl, ap, arith}
 use Rattle.std.proofs.lemmas.Bool.{false≢true, and_parts, eqb-true}
 use Rattle.std.proofs.lemmas.Bool.Decides.{nat_tests}
 use Rattle.sharing.specs.declared.rows.Row.{Row}
@@ -44,20 +44,16 @@ only_claims Trading is-so = absurd (false≢true is-so)
 only_claims Metering is-so = absurd (false≢true is-so)
 only_claims Claims is-so = refl
 
--- registering belongs to every phase, and there is room
-pub record Registrable (b : Book) : Type 0 where
-  pub in_turn : belongs call.Register b.stage ≡ true
-  pub room : b.register.count < 64
-
-pub registrable : (b : Book) (letter : ℕ) (modules : List Module) (count access n v : ℕ) → judged (register_rows b letter modules count access) n ≡ Ok v → Registrable b
-registrable b letter modules count access n v accepted = record { in_turn = grind (arith, nat_tests); room = grind (arith, nat_tests) }
+-- registering belongs to every phase
+pub registrable : (b : Book) (letter : ℕ) (modules : List Module) (count access n v : ℕ) → judged (register_rows b letter modules count access) n ≡ Ok v → belongs call.Register b.stage ≡ true
+registrable b letter modules count access n v accepted = grind (arith, nat_tests)
 
 -- switching names a facility, in the trading of some month
 pub record Switchable (b : Book) (f : ℕ) : Type 0 where
   pub month : ℕ
   pub stage : b.stage ≡ Month month Trading
   pub from_one : 0 < f
-  pub given : f ≤ b.register.count
+  pub given : f ≤ length b.register.items
 
 pub switchable : (b : Book) (f : ℕ) → judged {A = Unit {0}} (switch_rows b f) tt ≡ Ok tt → Switchable b f
 switchable b f accepted =
@@ -93,7 +89,7 @@ pub record Reportable (b : Book) (q : Phase) (f : ℕ) : Type 0 where
   pub month : ℕ
   pub stage : b.stage ≡ Month month q
   pub from_one : 0 < f
-  pub given : f ≤ b.register.count
+  pub given : f ≤ length b.register.items
 
 pub reportable : (b : Book) (f letter : ℕ) → judged {A = Unit {0}} (letter_rows call.Report b f letter) tt ≡ Ok tt → Reportable b Metering f
 reportable b f letter accepted =

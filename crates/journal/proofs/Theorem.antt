@@ -1,6 +1,6 @@
 -- The law of the journal, by induction on its entries: every book that a journal is recorded of has what the journal's acts
 -- say. Assumes nothing.
-use Rattle.std.proofs.Common.{◌≡◌, ℕ, ◌+◌, ◌-◌, Bool, true, false, ◌&&◌, eqb, ltb, List, [], ◌∷◌, set, None, Ok, Err, sum, Result, sym, refl, ap, ◌∙◌, subst, inl, inr, arith}
+use Rattle.std.proofs.Common.{◌≡◌, ℕ, ◌+◌, ◌-◌, Bool, true, false, ◌&&◌, eqb, ltb, List, [], ◌∷◌, length, set, None, Ok, Err, sum, Result, sym, refl, ap, ◌∙◌, subst, inl, inr, arith}
 use Rattle.std.proofs.lemmas.Bool.{cases_Bool, cond-true, cond-false, eqb-false, ltb-false, and_cases}
 use Rattle.metering.specs.declared.measuring.Measured.{Measured}
 use Rattle.metering.specs.declared.fault.MeteringFault.{MeteringFault}
@@ -20,7 +20,7 @@ use Rattle.ledger.specs.declared.state.Claim.{Claim}
 use Rattle.ledger.specs.declared.state.Claim.TheVariants as claim
 use Rattle.ledger.specs.declared.state.Phase.TheVariants.{Metering, Claims}
 use Rattle.ledger.specs.Judged.{Rows, judged, ruled}
-use Rattle.ledger.specs.Form.{no_facility, month_of}
+use Rattle.ledger.specs.Form.{month_of}
 use Rattle.ledger.specs.Making.{blank}
 use Rattle.ledger.specs.Course.{unopened}
 use Rattle.ledger.specs.Opening.{opened, Opens}
@@ -103,11 +103,11 @@ module _ (l : Ledger) (j : Journal) (old : Simulates (acts j) l.book) where
 
   registering_step : (letter : ℕ) (modules : List Module) (count access f : ℕ) (b' : Book) → Allowed b (registering letter modules count access (Ok f)) b' → Simulates (acts (registering letter modules count access (Ok f) ∷ j)) b'
   registering_step letter modules count access f b' t =
-      let n = b.register.count + 1 in
+      let n = length b.register.items + 1 in
       let power = firm_power modules count access in
       let accepted = accepted_by (register_rows b letter modules count access) n f (sym t.0) in
-      let ok = registrable b letter modules count access n n accepted.0 in
-      same_book _ _ b' t.1 (subst (λ x. Simulates (registered x letter power ∷ acts j) (registered-in b letter power)) (sym accepted.1) (registered_simulates l (acts j) old letter power ok.in_turn ok.room))
+      let in_turn = registrable b letter modules count access n n accepted.0 in
+      same_book _ _ b' t.1 (subst (λ x. Simulates (registered x letter power ∷ acts j) (registered-in b letter power)) (sym accepted.1) (registered_simulates l (acts j) old letter power in_turn))
 
   switching_step : (f : ℕ) (on : Bool) (u : Unit {0}) (b' : Book) → Allowed b (switching f on (Ok u)) b' → Simulates (acts (switching f on (Ok u) ∷ j)) b'
   switching_step f on u b' t =
@@ -116,7 +116,7 @@ module _ (l : Ledger) (j : Journal) (old : Simulates (acts j) l.book) where
 
   awarding_step : (f kw price a : ℕ) (b' : Book) → Allowed b (awarding f kw price (Ok a)) b' → Simulates (acts (awarding f kw price (Ok a) ∷ j)) b'
   awarding_step f kw price a b' t =
-      let n = b.trade.count + 1 in
+      let n = length b.trade.items + 1 in
       let accepted = accepted_by (award_rows b f kw price) n a (sym t.0) in
       same_book _ _ b' t.1 (subst (λ x. Simulates (awarded x f kw price ∷ acts j) (awarded-in b f kw price)) (sym accepted.1) (awarded_simulates l (acts j) old f kw price (award_stage b f kw price n n accepted.0) (awardable b f kw price n n accepted.0)))
 
@@ -203,8 +203,8 @@ blank_simulates c new = record {
   };
   registers = record {
     count = refl;
-    firms = λ i. ap (λ x. x.firm) (same_at 64 i no_facility);
-    switches = λ i. ap (λ x. x.on) (same_at 64 i no_facility);
+    firms = λ i. refl;
+    switches = λ i. refl;
     off = λ f _. refl;
   };
   course = (refl, λ i. same_at 64 i None);

@@ -95,7 +95,7 @@ cut_two = ledger_of (with_stage ceded.book (Month 2 Metering)) (staged_kept cede
 abbrev with_report : Ledger → ℕ → ℕ → Ledger
 with_report l place credited =
     let reports = set l.book.month.measured place (Some (record { counted = 1; credited = credited })) in
-    ledger_of (with_month l.book (record { measured = reports; claims = l.book.month.claims })) (month_kept l reports l.book.month.claims (length-set l.book.month.measured place (Some (record { counted = 1; credited = credited })) ∙ l.shaped.2) l.shaped.3)
+    ledger_of (with_month l.book (record { measured = reports; claims = l.book.month.claims })) (month_kept l reports l.book.month.claims (length-set l.book.month.measured place (Some (record { counted = 1; credited = credited })) ∙ l.shaped.0) l.shaped.1)
 
 abbrev first_report : Ledger
 first_report = with_report cut_two 0 500

@@ -1,6 +1,6 @@
 -- The ledger that an accepted call leaves: its book keeps what every book keeps. Assumes nothing.
-use Rattle.std.proofs.Common.{◌≡◌, ℕ, ◌-◌, ◌<◌, ◌≤◌, Bool, List, length, Option, refl, ◌∙◌, arith, lit≤}
-use Rattle.std.proofs.lemmas.List.{length-set}
+use Rattle.std.proofs.Common.{◌≡◌, ℕ, ◌-◌, ◌<◌, ◌≤◌, Bool, false, List, length, Option, refl, ◌∙◌, arith, lit≤}
+use Rattle.std.proofs.lemmas.List.{length-set, length_push}
 use Rattle.calendar.specs.declared.year.Calendar.{Calendar}
 use Rattle.metering.specs.declared.measuring.Measured.{Measured}
 use Rattle.ledger.specs.declared.kept.Ledger.{Ledger}
@@ -17,7 +17,7 @@ use Rattle.ledger.specs.Booking.{line_at, month_lines}
 use Rattle.ledger.specs.Closing.{closed}
 use Rattle.ledger.proofs.Keeping.{Kept}
 use Rattle.ledger.proofs.Places.{each_set}
-use Rattle.ledger.proofs.Registered.{registered_firm, registered_vacant, registered_within}
+use Rattle.ledger.proofs.Registered.{registered_firm, registered_within}
 use Rattle.ledger.proofs.MonthBounds.{month_right_bounded}
 use Rattle.ledger.proofs.BookingLaws.{line_within, lines_all}
 use Rattle.ledger.proofs.Settled.{closed_dated, length-month_lines, booked_lined, booked_bounded}
@@ -33,7 +33,6 @@ ledger_of b k = record {
   lined = k.lined;
   booked = k.booked;
   firm = k.firm;
-  vacant = k.vacant;
   within = k.within;
   whole = k.whole;
   priced = k.priced;
@@ -53,7 +52,6 @@ module _ (l : Ledger) where
     lined = l.lined;
     booked = l.booked;
     firm = l.firm;
-    vacant = l.vacant;
     within = l.within;
     whole = l.whole;
     priced = l.priced;
@@ -69,7 +67,6 @@ module _ (l : Ledger) where
     lined = l.lined;
     booked = l.booked;
     firm = l.firm;
-    vacant = l.vacant;
     within = l.within;
     whole = l.whole;
     priced = l.priced;
@@ -80,52 +77,46 @@ module _ (l : Ledger) where
   pub month_kept : (measured : List (Option Measured)) (claims : List Claim) → length measured ≡ 64 → length claims ≡ 64 → Kept (with_month b (record { measured = measured; claims = claims }))
   month_kept measured claims reports claimed = record {
     sized = l.sized;
-    shaped = (l.shaped.0, l.shaped.1, reports, claimed, l.shaped.4);
+    shaped = (reports, claimed, l.shaped.2);
     wide = l.wide;
     lined = l.lined;
     booked = l.booked;
     firm = l.firm;
-    vacant = l.vacant;
     within = l.within;
     whole = l.whole;
     priced = l.priced;
     dated = l.dated;
   }
 
-  pub registered_kept : (letter power : ℕ) → b.register.count < 64 → power ≤ 1_000_000 → Kept (registered b letter power)
-  registered_kept letter power room few =
-      let inside : b.register.count < length b.register.facilities = omega (arith, room, l.shaped.0) in
-      record {
-        sized = (omega (arith, room), l.sized.1);
-        shaped = (length-set b.register.facilities b.register.count (record { letter = letter; firm = power; on = mathlib.Core.Bool.false }) ∙ l.shaped.0, l.shaped.1, l.shaped.2, l.shaped.3, l.shaped.4);
-        wide = l.wide;
-        lined = l.lined;
-        booked = l.booked;
-        firm = registered_firm b letter power inside few l.firm;
-        vacant = registered_vacant b letter power inside l.vacant;
-        within = registered_within b letter power inside l.vacant l.within;
-        whole = l.whole;
-        priced = l.priced;
-        dated = l.dated;
-      }
+  pub registered_kept : (letter power : ℕ) → length b.register.items < 64 → power ≤ 1_000_000 → Kept (registered b letter power)
+  registered_kept letter power room few = record {
+    sized = (omega (arith, room, length_push b.register.items (record { letter = letter; firm = power; on = false })), l.sized.1);
+    shaped = l.shaped;
+    wide = l.wide;
+    lined = l.lined;
+    booked = l.booked;
+    firm = registered_firm b letter power few l.firm;
+    within = registered_within b letter power l.within;
+    whole = l.whole;
+    priced = l.priced;
+    dated = l.dated;
+  }
 
   -- switching leaves each facility's firm power
-  switched_firm : (f : ℕ) (on : Bool) → f - 1 < 64 → (i : ℕ) → (facility_at (switched b f on).register i).firm ≡ (facility_at b.register i).firm
+  switched_firm : (f : ℕ) (on : Bool) → f - 1 < length b.register.items → (i : ℕ) → (facility_at (switched b f on).register i).firm ≡ (facility_at b.register i).firm
   switched_firm f on inside =
-      let xs = b.register.facilities in
-      each_set (λ i x. x.firm ≡ (facility_at b.register i).firm) xs (f - 1) (set_on (facility_at b.register (f - 1)) on) no_facility (omega (arith, inside, l.shaped.0)) refl (λ j _. refl)
+      each_set (λ i x. x.firm ≡ (facility_at b.register i).firm) b.register.items (f - 1) (set_on (facility_at b.register (f - 1)) on) no_facility inside refl (λ j _. refl)
 
-  pub switched_kept : (f : ℕ) (on : Bool) → f - 1 < 64 → Kept (switched b f on)
+  pub switched_kept : (f : ℕ) (on : Bool) → f - 1 < length b.register.items → Kept (switched b f on)
   switched_kept f on inside =
       let same = switched_firm f on inside in
       record {
-        sized = l.sized;
-        shaped = (length-set b.register.facilities (f - 1) (set_on (facility_at b.register (f - 1)) on) ∙ l.shaped.0, l.shaped.1, l.shaped.2, l.shaped.3, l.shaped.4);
+        sized = (omega (arith, l.sized.0, length-set b.register.items (f - 1) (set_on (facility_at b.register (f - 1)) on)), l.sized.1);
+        shaped = l.shaped;
         wide = l.wide;
         lined = l.lined;
         booked = l.booked;
         firm = λ i. omega (arith, same i, l.firm i);
-        vacant = λ i past. same i ∙ l.vacant i past;
         within = λ i. omega (arith, same i, l.within i);
         whole = l.whole;
         priced = l.priced;
@@ -133,57 +124,51 @@ module _ (l : Ledger) where
       }
 
   pub awarded_kept : (f kw price : ℕ) → Awardable b f kw price → Kept (awarded b f kw price)
-  awarded_kept f kw price ok =
-      let long = l.shaped.1 in
-      record {
-        sized = (l.sized.0, omega (arith, ok.room));
-        shaped = (l.shaped.0, length-set b.trade.awards b.trade.count (new_award f kw price) ∙ long, l.shaped.2, l.shaped.3, l.shaped.4);
-        wide = awarded_wide b f kw price ok long l.sized l.wide;
-        lined = l.lined;
-        booked = l.booked;
-        firm = l.firm;
-        vacant = l.vacant;
-        within = awarded_within b f kw price ok long l.sized l.within;
-        whole = awarded_whole b f kw price ok long l.sized l.whole;
-        priced = awarded_priced b f kw price ok long l.sized l.priced;
-        dated = l.dated;
-      }
+  awarded_kept f kw price ok = record {
+    sized = (l.sized.0, omega (arith, ok.room, length_push b.trade.items (new_award f kw price)));
+    shaped = l.shaped;
+    wide = awarded_wide b f kw price ok l.wide;
+    lined = l.lined;
+    booked = l.booked;
+    firm = l.firm;
+    within = awarded_within b f kw price ok l.sized.0 l.within;
+    whole = awarded_whole b f kw price ok l.sized.0 l.whole;
+    priced = awarded_priced b f kw price ok l.priced;
+    dated = l.dated;
+  }
 
   pub ceded_kept : (a giver taker kw : ℕ) → Cedable b a giver taker kw → Kept (ceded b a giver taker kw)
   ceded_kept a giver taker kw ok =
-      let long = l.shaped.1 in
       let old = award_at b.trade (a - 1) in
       record {
-        sized = l.sized;
-        shaped = (l.shaped.0, length-set b.trade.awards (a - 1) (with_held old (shifted old.held (giver - 1) (taker - 1) kw)) ∙ long, l.shaped.2, l.shaped.3, l.shaped.4);
-        wide = ceded_wide b a giver taker kw ok long l.sized l.wide;
+        sized = (l.sized.0, omega (arith, l.sized.1, length-set b.trade.items (a - 1) (with_held old (shifted old.held (giver - 1) (taker - 1) kw))));
+        shaped = l.shaped;
+        wide = ceded_wide b a giver taker kw ok l.sized.0 l.wide;
         lined = l.lined;
         booked = l.booked;
         firm = l.firm;
-        vacant = l.vacant;
-        within = ceded_within b a giver taker kw ok long l.sized l.wide l.within;
-        whole = ceded_whole b a giver taker kw ok long l.sized l.wide l.whole;
-        priced = ceded_priced b a giver taker kw ok long l.sized l.wide l.priced;
+        within = ceded_within b a giver taker kw ok l.sized.0 l.wide l.within;
+        whole = ceded_whole b a giver taker kw ok l.sized.0 l.wide l.whole;
+        priced = ceded_priced b a giver taker kw ok l.sized.0 l.wide l.priced;
         dated = l.dated;
       }
 
   -- the lines of a month have their bounds
   pub lines_bounded : (m f : ℕ) → Bounded (line_at (month_lines b m) f)
   lines_bounded m =
-      lines_all Bounded b m (λ f inside. (month_right_bounded b.trade m f (l.sized.1, l.shaped.1) l.wide l.priced l.whole inside (omega (arith, l.within f, l.firm f)), line_within b m f)) (lit≤ tt, lit≤ tt)
+      lines_all Bounded b m (λ f inside. (month_right_bounded b.trade m f l.sized.1 l.wide l.priced l.whole inside (omega (arith, l.within f, l.firm f)), line_within b m f)) (lit≤ tt, lit≤ tt)
 
   pub closed_kept : Kept (closed b)
   closed_kept =
       let m = month_of b.stage in
-      let inside : m - 1 < length b.lines = omega (arith, l.shaped.4, l.dated.0, l.dated.1) in
+      let inside : m - 1 < length b.lines = omega (arith, l.shaped.2, l.dated.0, l.dated.1) in
       record {
         sized = l.sized;
-        shaped = (l.shaped.0, l.shaped.1, refl, refl, length-set b.lines (m - 1) (month_lines b m) ∙ l.shaped.4);
+        shaped = (refl, refl, length-set b.lines (m - 1) (month_lines b m) ∙ l.shaped.2);
         wide = l.wide;
         lined = booked_lined b (m - 1) (month_lines b m) inside (length-month_lines b m) l.lined;
         booked = booked_bounded b (m - 1) (month_lines b m) inside (lines_bounded m) l.booked;
         firm = l.firm;
-        vacant = l.vacant;
         within = l.within;
         whole = l.whole;
         priced = l.priced;

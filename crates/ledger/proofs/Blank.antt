@@ -3,7 +3,7 @@ use Rattle.std.proofs.Common.{◌≡◌, ℕ, ◌<◌, [], length, get_or, repli
 use Rattle.std.proofs.lemmas.List.{length-replicate, get_or-replicate, get_or_past}
 use Rattle.std.proofs.lemmas.Bool.{cases_lt}
 use Rattle.calendar.specs.declared.year.Calendar.{Calendar}
-use Rattle.ledger.specs.Form.{no_facility, Bounded}
+use Rattle.ledger.specs.Form.{Bounded}
 use Rattle.ledger.specs.Making.{no_line, blank}
 use Rattle.ledger.proofs.Places.{same_at}
 use Rattle.ledger.proofs.Keeping.{Kept}
@@ -18,18 +18,16 @@ empty_line n k m f =
 
 pub blank_kept : (c : Calendar) → Kept (blank c)
 blank_kept c =
-    let none : (f : ℕ) → (get_or (replicate 64 no_facility) f no_facility).firm ≡ 0 = λ f. ap (λ x. x.firm) (same_at 64 f no_facility) in
     let each : (m : ℕ) → m < 12 → length (get_or (replicate 12 (replicate 64 no_line)) m []) ≡ 64 = λ m lt. ap length (get_or-replicate 12 m (replicate 64 no_line) [] lt) in
     let bounded : (m f : ℕ) → Bounded (get_or (get_or (replicate 12 (replicate 64 no_line)) m []) f no_line) = λ m f. subst Bounded (sym (empty_line 12 64 m f)) (lit≤ tt, lit≤ tt) in
     record {
       sized = (lit≤ tt, lit≤ tt);
-      shaped = (refl, refl, refl, refl, refl);
+      shaped = (refl, refl, refl);
       wide = λ a lt. omega arith;
       lined = each;
       booked = bounded;
-      firm = λ f. omega (arith, none f);
-      vacant = λ f _. none f;
-      within = λ f. omega (arith, none f);
+      firm = λ f. lit≤ tt;
+      within = λ f. lit≤ tt;
       whole = λ a lt. omega arith;
       priced = λ a lt. (omega arith, omega arith, omega arith, omega arith);
       dated = (lit≤ tt, lit≤ tt);

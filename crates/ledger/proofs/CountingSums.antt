@@ -1,6 +1,7 @@
 -- Sums over the numbers below n, and over the front of a list. Assumes nothing.
 use Rattle.std.proofs.Common.{◌≡◌, ℕ, zero, suc, ◌+◌, ◌*◌, ◌<◌, ◌≤◌, List, [], ◌∷◌, map, length, get_or, take, sum_by, sym, refl, ap, ◌∙◌, mul-zero, mul-add, add-one, arith}
 use Rattle.std.specs.List.{range_with_len}
+use Rattle.std.proofs.lemmas.List.{take_all}
 use Rattle.std.proofs.lemmas.List.Sums.{sum_by-cons, sum_by_more}
 use Rattle.sharing.specs.Steps.{sum_by-counting_more}
 
@@ -23,6 +24,10 @@ sum_by-front g xs (suc n) d le =
     let places = sum_by-counting_more (λ i. g (get_or xs i d)) 0 n n (omega arith) in
     let all : sum_by g (take (n + 1) xs) ≡ sum_by (λ i. g (get_or xs i d)) (range_with_len 0 (n + 1)) = omega arith in
     rw add-one at all
+
+-- and over all of them, which are n
+pub sum_by-places : {X : Type 0} (g : X → ℕ) (xs : List X) (n : ℕ) (d : X) → length xs ≡ n → sum_by g xs ≡ sum_by (λ i. g (get_or xs i d)) (range_with_len 0 n)
+sum_by-places g xs n d all = ap (sum_by g) (sym (take_all n xs (omega arith))) ∙ sum_by-front g xs n d (omega arith)
 
 -- where p times each addend is at most q times another's and r more, so are the sums, with r more for each
 pub sum_by-counting_scaled : (g h : ℕ → ℕ) (p q r n : ℕ) → ((i : ℕ) → i < n → p * g i ≤ q * h i + r) → p * sum_by g (range_with_len 0 n) ≤ q * sum_by h (range_with_len 0 n) + r * n

@@ -1,6 +1,6 @@
 -- All that a ledger keeps of its book, in the order in which `Ledger` has it. Assumes nothing.
 use Rattle.ledger.specs.declared.state.Book.{Book}
-use Rattle.ledger.specs.Form.{month_of, Sized, Shaped, Wide, Lined, Booked, Firm, Vacant, Within, Whole, Priced, Dated}
+use Rattle.ledger.specs.Form.{month_of, Sized, Shaped, Wide, Lined, Booked, Firm, Within, Whole, Priced, Dated}
 
 abbrev pub Kept : Book → Type 0
 Kept b = record {
@@ -10,7 +10,6 @@ Kept b = record {
   lined : Lined b;
   booked : Booked b;
   firm : Firm b.register;
-  vacant : Vacant b.register;
   within : Within b;
   whole : Whole b.trade;
   priced : Priced b.trade;

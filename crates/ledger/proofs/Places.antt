@@ -1,7 +1,8 @@
--- What holds of each place of a list, and of sums over its front, where one place is changed. Assumes nothing.
-use Rattle.std.proofs.Common.{◌≡◌, ℕ, zero, suc, ◌+◌, ◌<◌, ◌≤◌, ◌≢◌, List, [], ◌∷◌, length, get_or, take, set, replicate, sum_by, sym, refl, ap, ◌∙◌, subst, ⊎_elim, arith}
-use Rattle.std.proofs.lemmas.List.{get_or-set_same, get_or-set_other, take-take, take_more_set}
-use Rattle.std.proofs.lemmas.List.Sums.{sum_by-cons, sum_by_more, sum_by-take-le, sum_by_push}
+-- What holds of each place of a list, where one place is changed, or one item pushed. Assumes nothing.
+use Rattle.std.proofs.Common.{◌≡◌, ℕ, zero, suc, ◌<◌, ◌≢◌, List, [], ◌∷◌, ◌++◌, length, get_or, set, replicate, sym, refl, ap, ◌∙◌, subst, ⊎_elim, arith}
+use Rattle.std.specs.List.{refill}
+use Rattle.arrayvec.specs.ArrayVec.{ArrayVec, with_item, with_items}
+use Rattle.std.proofs.lemmas.List.{get_or-set_same, get_or-set_other, get_or_push, length-set}
 use Rattle.std.proofs.lemmas.Bool.{cases_eq}
 
 -- a fact of every place, where one place is changed
@@ -11,23 +12,32 @@ each_set P xs i x d inside here there j =
     (λ same. subst (λ k. P k (get_or (set xs i x) k d)) (sym same) (subst (P i) (sym (get_or-set_same xs i x d inside)) here))
     (λ other. subst (P j) (sym (get_or-set_other xs i j x d other)) (there j other)) (cases_eq j i)
 
-module _ {X : Type 0} (f : X → ℕ) where
-  -- a front with the item behind it is within a longer front
-  pub front_le : (xs : List X) (i n : ℕ) (d : X) → i < n → n ≤ length xs → sum_by f (take i xs) + f (get_or xs i d) ≤ sum_by f (take n xs)
-  front_le xs i n d lt le =
-      let same : sum_by f (take (i + 1) (take n xs)) ≡ sum_by f (take (i + 1) xs) = ap (sum_by f) (take-take (i + 1) n xs (omega arith)) in
-      omega (arith, same, sum_by_more f xs i d (omega arith), sum_by-take-le f (take n xs) (i + 1))
+-- where one item is pushed, every other place stays
+pub push_other : {A : Type 0} (xs : List A) (x d : A) (i : ℕ) → i ≢ length xs → get_or (xs ++ x ∷ []) i d ≡ get_or xs i d
+push_other [] x d zero other = absurd (other refl)
+push_other [] x d (suc i) other = refl
+push_other (y ∷ ys) x d zero other = refl
+push_other (y ∷ ys) x d (suc i) other = push_other ys x d i (λ same. other (ap suc same))
 
-  -- the front of n, where the item at i is changed
-  pub front_set : (n : ℕ) (xs : List X) (i : ℕ) (y d : X) → i < n → i < length xs → sum_by f (take n (set xs i y)) + f (get_or xs i d) ≡ sum_by f (take n xs) + f y
-  front_set zero xs i y d lt inside = omega arith
-  front_set (suc n) [] i y d lt inside = omega arith
-  front_set (suc n) (x ∷ xs) zero y d lt inside = omega (arith, sum_by-cons f x (take n xs), sum_by-cons f y (take n xs))
-  front_set (suc n) (x ∷ xs) (suc i) y d lt inside = omega (arith, sum_by-cons f x (take n xs), sum_by-cons f x (take n (set xs i y)), front_set n xs i y d (omega arith) (omega arith))
+-- a fact of every place, where one item is pushed
+pub each_push : {A : Type 0} (P : ℕ → A → Type 0) (xs : List A) (x d : A) → P (length xs) x → ((j : ℕ) → j ≢ length xs → P j (get_or xs j d)) → (j : ℕ) → P j (get_or (xs ++ x ∷ []) j d)
+each_push P xs x d here there j =
+    ⊎_elim
+    (λ same. subst (λ k. P k (get_or (xs ++ x ∷ []) k d)) (sym same) (subst (P (length xs)) (sym (get_or_push xs x d (length xs) refl)) here))
+    (λ other. subst (P j) (sym (push_other xs x d j other)) (there j other)) (cases_eq j (length xs))
 
-  -- the front with one item more, which is written there
-  pub front_push : (xs : List X) (n : ℕ) (y : X) → n < length xs → sum_by f (take (n + 1) (set xs n y)) ≡ sum_by f (take n xs) + f y
-  front_push xs n y inside = ap (sum_by f) (take_more_set xs n y inside) ∙ sum_by_push f (take n xs) y
+-- as many items as a list has, written over it, are all that it has then
+refill_whole : {A : Type 0} (xs ws : List A) → length ws ≡ length xs → refill (length xs) xs ws ≡ ws
+refill_whole [] [] same = refl
+refill_whole [] (w ∷ ws) same = absurd (omega arith)
+refill_whole (x ∷ xs) [] same = absurd (omega arith)
+refill_whole (x ∷ xs) (w ∷ ws) same = ap (λ l. w ∷ l) (refill_whole xs ws (omega arith))
+
+-- so a vector of whose items one was written through the slice has that item
+pub item_written : {A : Type 0} (v : ArrayVec A) (xs : List A) (i : ℕ) (x : A) → xs ≡ v.items → with_items v (set xs i x) ≡ with_item v i x
+item_written v xs i x all =
+    let whole = refill_whole v.items (set xs i x) (length-set xs i x ∙ ap length all) ∙ ap (λ ys. set ys i x) all in
+    λ k. record { items = whole k }
 
 -- a list of one value has it at every place, where it stands for what lies past the end too
 pub same_at : {A : Type 0} (n i : ℕ) (x : A) → get_or (replicate n x) i x ≡ x

@@ -1,5 +1,5 @@
 -- Awarding: its figures, its refusals, and the award that it adds. Serves src/awarding.rt. Assumes nothing.
-use Rattle.std.specs.Prelude.{ℕ, ◌+◌, ◌-◌, Bool, not, ◌&&◌, [], ◌∷◌, ◌++◌, replicate, nat_le, nat_lt, slice_set}
+use Rattle.std.specs.Prelude.{ℕ, ◌+◌, ◌-◌, Bool, not, ◌&&◌, [], ◌∷◌, ◌++◌, length, replicate, nat_le, nat_lt, slice_set}
 use Rattle.ledger.specs.declared.course.Call.TheVariants as call
 use Rattle.ledger.specs.declared.refusal.Refusal.TheVariants as refusal
 use Rattle.ledger.specs.declared.state.Award.{Award}
@@ -20,8 +20,8 @@ right_award kw price = (nat_le 1_000 kw && nat_le kw 1_000_000) && nat_le 1 pric
 abbrev pub award_rows : Book → ℕ → ℕ → ℕ → Rows
 award_rows b f kw price =
     course call.Award b.stage
-    ++ (not (given_out f b.register.count), refusal.NoFacility)
-    ∷ (nat_le 32 b.trade.count, refusal.NoRoom)
+    ++ (not (given_out f (length b.register.items)), refusal.NoFacility)
+    ∷ (nat_le 32 (length b.trade.items), refusal.NoRoom)
     ∷ (not (right_award kw price), refusal.OutOfLimits)
     ∷ (over_firm b f kw, refusal.OverFirm) ∷ []
 
@@ -30,5 +30,4 @@ abbrev pub new_award : ℕ → ℕ → ℕ → Award
 new_award f kw price = record { kw = kw; price = price; held = slice_set (replicate 64 0) (f - 1) kw }
 
 abbrev pub awarded : Book → ℕ → ℕ → ℕ → Book
-awarded b f kw price =
-    with_trade b (record { awards = slice_set b.trade.awards b.trade.count (new_award f kw price); count = b.trade.count + 1 })
+awarded b f kw price = with_trade b (record { items = b.trade.items ++ new_award f kw price ∷ [] })

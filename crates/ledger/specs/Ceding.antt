@@ -1,5 +1,5 @@
 -- Ceding: its refusals, and the kW that it moves. Serves src/ceding.rt. Assumes nothing.
-use Rattle.std.specs.Prelude.{ℕ, ◌+◌, ◌-◌, not, ◌&&◌, List, [], ◌∷◌, ◌++◌, ◌==◌, nat_lt, slice_index, slice_set}
+use Rattle.std.specs.Prelude.{ℕ, ◌+◌, ◌-◌, not, ◌&&◌, List, [], ◌∷◌, ◌++◌, length, ◌==◌, nat_lt, slice_index, slice_set}
 use Rattle.ledger.specs.declared.course.Call.TheVariants as call
 use Rattle.ledger.specs.declared.refusal.Refusal.TheVariants as refusal
 use Rattle.ledger.specs.declared.state.Award.{Award}
@@ -13,8 +13,8 @@ use Rattle.ledger.specs.Changes.{with_trade}
 abbrev pub cede_rows : Book → ℕ → ℕ → ℕ → ℕ → Rows
 cede_rows b a giver taker kw =
     course call.Cede b.stage
-    ++ (not (given_out giver b.register.count && given_out taker b.register.count), refusal.NoFacility)
-    ∷ (not (given_out a b.trade.count), refusal.NoAward)
+    ++ (not (given_out giver (length b.register.items) && given_out taker (length b.register.items)), refusal.NoFacility)
+    ∷ (not (given_out a (length b.trade.items)), refusal.NoAward)
     ∷ ((kw == 0), refusal.OutOfLimits)
     ∷ ((giver == taker), refusal.GiverIsTaker)
     ∷ (not (facility_at b.register (taker - 1)).on, refusal.TakerOff)
@@ -32,4 +32,4 @@ with_held a held = record { kw = a.kw; price = a.price; held = held }
 abbrev pub ceded : Book → ℕ → ℕ → ℕ → ℕ → Book
 ceded b a giver taker kw =
     let old = award_at b.trade (a - 1) in
-    with_trade b (record { awards = slice_set b.trade.awards (a - 1) (with_held old (shifted old.held (giver - 1) (taker - 1) kw)); count = b.trade.count })
+    with_trade b (record { items = slice_set b.trade.items (a - 1) (with_held old (shifted old.held (giver - 1) (taker - 1) kw)) })

@@ -1,10 +1,9 @@
 -- A book with one part changed. Assumes nothing.
 use Rattle.calendar.specs.declared.year.Calendar.{Calendar}
 use Rattle.ledger.specs.declared.state.Stage.{Stage}
-use Rattle.ledger.specs.declared.state.Register.{Register}
-use Rattle.ledger.specs.declared.state.Trade.{Trade}
 use Rattle.ledger.specs.declared.state.Month.{Month}
 use Rattle.ledger.specs.declared.state.Book.{Book}
+use Rattle.ledger.specs.Form.{Register, Trade}
 
 abbrev pub with_calendar : Book → Calendar → Book
 with_calendar b x = record { calendar = x; stage = b.stage; register = b.register; trade = b.trade; month = b.month; lines = b.lines }

@@ -1,5 +1,5 @@
 -- Claims, and dismissing them. Serves src/claiming.rt. Assumes nothing.
-use Rattle.std.specs.Prelude.{ℕ, ◌-◌, Bool, true, false, not, [], ◌∷◌, ◌++◌, slice_index_or, slice_set}
+use Rattle.std.specs.Prelude.{ℕ, ◌-◌, Bool, true, false, not, [], ◌∷◌, ◌++◌, length, slice_index_or, slice_set}
 use Rattle.ledger.specs.declared.course.Call.TheVariants as call
 use Rattle.ledger.specs.declared.refusal.Refusal.TheVariants as refusal
 use Rattle.ledger.specs.declared.state.Claim.{Claim}
@@ -41,7 +41,7 @@ unclaimed_rows x = (was_made x, refusal.ClaimedTwice) ∷ []
 abbrev pub claim_rows : Book → ℕ → Rows
 claim_rows b f =
     course call.Claim b.stage
-    ++ (not (given_out f b.register.count), refusal.NoFacility) ∷ unclaimed_rows (claim_of b f)
+    ++ (not (given_out f (length b.register.items)), refusal.NoFacility) ∷ unclaimed_rows (claim_of b f)
 
 abbrev pub claimed : Book → ℕ → Book
 claimed b f = with_claim b f claim.Open
@@ -53,7 +53,7 @@ answer_rows x = (not (is_open x), refusal.NoClaim) ∷ []
 abbrev pub dismiss_rows : Book → ℕ → Rows
 dismiss_rows b f =
     course call.Answer b.stage
-    ++ (not (given_out f b.register.count), refusal.NoFacility) ∷ answer_rows (claim_of b f)
+    ++ (not (given_out f (length b.register.items)), refusal.NoFacility) ∷ answer_rows (claim_of b f)
 
 abbrev pub dismissed : Book → ℕ → Book
 dismissed b f = with_claim b f claim.Answered

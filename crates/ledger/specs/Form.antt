@@ -1,14 +1,21 @@
 -- What every ledger keeps of its book, a name for each fact, and how a book is read at a place. Places count from 0:
 -- facility 1 stands at place 0. Serves the whole crate. Assumes nothing.
-use Rattle.std.specs.Prelude.{◌≡◌, ℕ, ◌<◌, ◌≤◌, false, List, [], length, take, sum_by, sum, slice_index, slice_index_or}
+use Rattle.std.specs.Prelude.{◌≡◌, ℕ, ◌<◌, ◌≤◌, false, List, [], length, sum_by, sum, slice_index, slice_index_or}
+use Rattle.arrayvec.specs.ArrayVec.{ArrayVec}
 use Rattle.ledger.specs.declared.state.Stage.{Stage}
 use Rattle.ledger.specs.declared.state.Stage.TheVariants.{Unopened, Month, Finished}
 use Rattle.ledger.specs.declared.state.Facility.{Facility}
-use Rattle.ledger.specs.declared.state.Register.{Register}
 use Rattle.ledger.specs.declared.state.Award.{Award}
-use Rattle.ledger.specs.declared.state.Trade.{Trade}
 use Rattle.ledger.specs.declared.state.Line.{Line}
 use Rattle.ledger.specs.declared.state.Book.{Book}
+
+-- the facilities that were registered, in the order of their numbers
+abbrev pub Register : Type 0
+Register = ArrayVec Facility
+
+-- the awards that were taken, in the order of their numbers
+abbrev pub Trade : Type 0
+Trade = ArrayVec Award
 
 -- what stands for a facility, and for an award, that was not given out
 abbrev pub no_facility : Facility
@@ -18,14 +25,10 @@ abbrev pub no_award : Award
 no_award = record { kw = 0; price = 0; held = [] }
 
 abbrev pub facility_at : Register → ℕ → Facility
-facility_at r f = slice_index_or r.facilities f no_facility
+facility_at r f = slice_index_or r.items f no_facility
 
 abbrev pub award_at : Trade → ℕ → Award
-award_at t i = slice_index_or t.awards i no_award
-
--- the awards given out
-abbrev pub given_awards : Trade → List Award
-given_awards t = take t.count t.awards
+award_at t i = slice_index_or t.items i no_award
 
 -- the kW that each facility holds under an award
 abbrev pub holdings : Award → List ℕ
@@ -37,7 +40,7 @@ held_under f a = slice_index (holdings a) f
 
 -- the kW that the facility at place f holds over all awards given out
 abbrev pub held_in_all : Trade → ℕ → ℕ
-held_in_all t f = sum_by (held_under f) (take t.count t.awards)
+held_in_all t f = sum_by (held_under f) t.items
 
 -- the month under way; 1 before the year, and 12 after it
 abbrev pub month_of : Stage → ℕ
@@ -53,13 +56,13 @@ Limited a = (1_000 ≤ a.kw) × (a.kw ≤ 1_000_000) × (1 ≤ a.price) × (a.pr
 abbrev pub Dated : ℕ → Type 0
 Dated m = (1 ≤ m) × (m ≤ 12)
 
--- no more is given out than there are places
+-- no more than 64 facilities and 32 awards are given out
 abbrev pub Sized : Book → Type 0
-Sized b = (b.register.count ≤ 64) × (b.trade.count ≤ 32)
+Sized b = (length b.register.items ≤ 64) × (length b.trade.items ≤ 32)
 
 -- the arrays have their lengths
 abbrev pub Shaped : Book → Type 0
-Shaped b = (length b.register.facilities ≡ 64) × (length b.trade.awards ≡ 32) × (length b.month.measured ≡ 64) × (length b.month.claims ≡ 64) × (length b.lines ≡ 12)
+Shaped b = (length b.month.measured ≡ 64) × (length b.month.claims ≡ 64) × (length b.lines ≡ 12)
 
 -- each month has a line for each facility
 abbrev pub Lined : Book → Type 0
@@ -77,29 +80,25 @@ Bounded l = (l.right ≤ 1_000_000_000) × (l.penalty ≤ l.right)
 abbrev pub Booked : Book → Type 0
 Booked b = (m f : ℕ) → Bounded (line_in b m f)
 
--- there are 32 places for awards, and no more are given out
+-- no more than 32 awards are given out
 abbrev pub Placed : Trade → Type 0
-Placed t = (t.count ≤ 32) × (length t.awards ≡ 32)
+Placed t = length t.items ≤ 32
 
 -- each award given out has a place for each facility
 abbrev pub Wide : Trade → Type 0
-Wide t = (i : ℕ) → i < t.count → length (holdings (award_at t i)) ≡ 64
+Wide t = (i : ℕ) → i < length t.items → length (holdings (award_at t i)) ≡ 64
 
 -- the figures of each award given out are within their limits
 abbrev pub Priced : Trade → Type 0
-Priced t = (i : ℕ) → i < t.count → Limited (award_at t i)
+Priced t = (i : ℕ) → i < length t.items → Limited (award_at t i)
 
 -- the kW held under each award given out add up to those awarded
 abbrev pub Whole : Trade → Type 0
-Whole t = (i : ℕ) → i < t.count → sum (holdings (award_at t i)) ≡ (award_at t i).kw
+Whole t = (i : ℕ) → i < length t.items → sum (holdings (award_at t i)) ≡ (award_at t i).kw
 
 -- firm power has its limit
 abbrev pub Firm : Register → Type 0
 Firm r = (f : ℕ) → (facility_at r f).firm ≤ 1_000_000
-
--- a facility that was not given out has no firm power
-abbrev pub Vacant : Register → Type 0
-Vacant r = (f : ℕ) → r.count ≤ f → (facility_at r f).firm ≡ 0
 
 -- no facility holds more than its firm power
 abbrev pub Within : Book → Type 0

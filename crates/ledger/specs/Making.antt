@@ -1,12 +1,11 @@
 -- A ledger as it is made. Serves src/making.rt. Assumes nothing.
-use Rattle.std.specs.Prelude.{replicate, None}
+use Rattle.std.specs.Prelude.{[], replicate, None}
 use Rattle.calendar.specs.declared.year.Calendar.{Calendar}
 use Rattle.ledger.specs.declared.state.Stage.TheVariants.{Unopened}
 use Rattle.ledger.specs.declared.state.Claim.TheVariants as claim
 use Rattle.ledger.specs.declared.state.Month.{Month}
 use Rattle.ledger.specs.declared.state.Line.{Line}
 use Rattle.ledger.specs.declared.state.Book.{Book}
-use Rattle.ledger.specs.Form.{no_facility}
 
 -- a month for which nothing has come in
 abbrev pub new_month : Month
@@ -21,8 +20,8 @@ abbrev pub blank : Calendar → Book
 blank c = record {
   calendar = c;
   stage = Unopened;
-  register = record { facilities = replicate 64 no_facility; count = 0 };
-  trade = record { awards = replicate 32 (record { kw = 0; price = 0; held = replicate 64 0 }); count = 0 };
+  register = record { items = [] };
+  trade = record { items = [] };
   month = new_month;
   lines = replicate 12 (replicate 64 no_line);
 }

@@ -1,5 +1,5 @@
 -- What a call refuses of the numbers that it is given. Serves src/numbers.rt. Assumes nothing.
-use Rattle.std.specs.Prelude.{ℕ, not, [], ◌∷◌, ◌++◌}
+use Rattle.std.specs.Prelude.{ℕ, not, [], ◌∷◌, ◌++◌, length}
 use Rattle.ledger.specs.declared.course.Call.{Call}
 use Rattle.ledger.specs.declared.refusal.Refusal.TheVariants as refusal
 use Rattle.ledger.specs.declared.state.Book.{Book}
@@ -9,11 +9,11 @@ use Rattle.ledger.specs.Lines.{closed_months}
 
 -- the facility f is to be given out
 abbrev pub facility_given : Book → ℕ → Rows
-facility_given b f = (not (given_out f b.register.count), refusal.NoFacility) ∷ []
+facility_given b f = (not (given_out f (length b.register.items)), refusal.NoFacility) ∷ []
 
 -- the award a is to be given out
 abbrev pub award_given : Book → ℕ → Rows
-award_given b a = (not (given_out a b.trade.count), refusal.NoAward) ∷ []
+award_given b a = (not (given_out a (length b.trade.items)), refusal.NoAward) ∷ []
 
 -- the month m is to be closed
 abbrev pub month_closed : Book → ℕ → Rows

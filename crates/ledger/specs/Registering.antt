@@ -1,6 +1,6 @@
 -- Registering: its figures, its refusals, firm power, and the facility that it adds. Serves src/registering.rt. Assumes
 -- nothing.
-use Rattle.std.specs.Prelude.{ℕ, ◌+◌, ◌*◌, ◌/◌, min, Bool, false, not, ◌&&◌, List, [], ◌∷◌, ◌++◌, take, sum_by, nat_le, slice_set}
+use Rattle.std.specs.Prelude.{ℕ, ◌*◌, ◌/◌, min, Bool, false, not, ◌&&◌, List, [], ◌∷◌, ◌++◌, length, take, sum_by, nat_le}
 use Rattle.std.specs.List.{list_all}
 use Rattle.ledger.specs.declared.course.Call.TheVariants as call
 use Rattle.ledger.specs.declared.refusal.Refusal.TheVariants as refusal
@@ -34,9 +34,8 @@ firm_power modules count access = min access (sum_by watts (take count modules) 
 abbrev pub register_rows : Book → ℕ → List Module → ℕ → ℕ → Rows
 register_rows b letter modules count access =
     course call.Register b.stage
-    ++ (nat_le 64 b.register.count, refusal.NoRoom) ∷ (not (right_figures letter modules count access), refusal.OutOfLimits) ∷ []
+    ++ (nat_le 64 (length b.register.items), refusal.NoRoom) ∷ (not (right_figures letter modules count access), refusal.OutOfLimits) ∷ []
 
 -- one facility more, switched off
 abbrev pub registered : Book → ℕ → ℕ → Book
-registered b letter firm =
-    with_register b (record { facilities = slice_set b.register.facilities b.register.count (record { letter = letter; firm = firm; on = false }); count = b.register.count + 1 })
+registered b letter firm = with_register b (record { items = b.register.items ++ (record { letter = letter; firm = firm; on = false }) ∷ [] })

@@ -1,5 +1,5 @@
 -- Reporting: its refusals, and the measured result that it keeps. Serves src/reporting.rt. Assumes nothing.
-use Rattle.std.specs.Prelude.{ℕ, ◌-◌, not, List, [], ◌∷◌, ◌++◌, Some, Ok, Err, Option, Result, ◌==◌, slice_set}
+use Rattle.std.specs.Prelude.{ℕ, ◌-◌, not, List, [], ◌∷◌, ◌++◌, length, Some, Ok, Err, Option, Result, ◌==◌, slice_set}
 use Rattle.metering.specs.declared.fault.MeteringFault.{MeteringFault}
 use Rattle.metering.specs.declared.measuring.Measured.{Measured}
 use Rattle.metering.specs.declared.report.Test.{Test}
@@ -8,18 +8,17 @@ use Rattle.ledger.specs.declared.course.Call.{Call}
 use Rattle.ledger.specs.declared.refusal.Refusal.TheVariants as refusal
 use Rattle.ledger.specs.declared.fault.LedgerFault.{LedgerFault}
 use Rattle.ledger.specs.declared.fault.LedgerFault.TheVariants as fault
-use Rattle.ledger.specs.declared.state.Register.{Register}
 use Rattle.ledger.specs.declared.state.Month.{Month}
 use Rattle.ledger.specs.declared.state.Book.{Book}
 use Rattle.ledger.specs.Judged.{Rows, given_out}
 use Rattle.ledger.specs.Course.{course}
-use Rattle.ledger.specs.Form.{facility_at, held_in_all, month_of}
+use Rattle.ledger.specs.Form.{Register, facility_at, held_in_all, month_of}
 use Rattle.ledger.specs.Changes.{with_month}
 
 -- the facility f was given out, and has this letter
 abbrev pub own_letter : Register → ℕ → ℕ → Rows
 own_letter r f letter =
-    (not (given_out f r.count), refusal.NoFacility) ∷ (not (letter == (facility_at r (f - 1)).letter), refusal.OtherLetter) ∷ []
+    (not (given_out f (length r.items)), refusal.NoFacility) ∷ (not (letter == (facility_at r (f - 1)).letter), refusal.OtherLetter) ∷ []
 
 -- the refusals of a call that brings a report, up to the report itself: its letter is the facility's
 abbrev pub letter_rows : Call → Book → ℕ → ℕ → Rows

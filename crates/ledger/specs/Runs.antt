@@ -1,5 +1,5 @@
 -- Runs of calls: which journals are recorded of which ledgers. Serves every call that may change a ledger. Assumes nothing.
-use Rattle.std.specs.Prelude.{◌≡◌, ℕ, ◌+◌, List, [], ◌∷◌, Ok, Result}
+use Rattle.std.specs.Prelude.{◌≡◌, ℕ, ◌+◌, List, [], ◌∷◌, length, Ok, Result}
 use Rattle.calendar.specs.declared.year.Calendar.{Calendar}
 use Rattle.calendar.specs.Stress.{runs_of}
 use Rattle.calendar.specs.Filling.{january}
@@ -43,11 +43,11 @@ charged_by b rule rows = charged rows (rule.charges (total_now b) (mwhs rows))
 abbrev pub Allowed : Book → Entry → Book → Type 0
 Allowed b (opening year firsts lengths r) b' = Opens (unopened b.stage) b year firsts lengths r b'
 Allowed b (registering letter modules count access r) b' =
-    (r ≡ ruled (register_rows b letter modules count access) (Ok (b.register.count + 1)))
+    (r ≡ ruled (register_rows b letter modules count access) (Ok (length b.register.items + 1)))
     × (b' ≡ kept_or r (registered b letter (firm_power modules count access)) b)
 Allowed b (switching f on r) b' = (r ≡ ruled (switch_rows b f) (Ok tt)) × (b' ≡ kept_or r (switched b f on) b)
 Allowed b (awarding f kw price r) b' =
-    (r ≡ ruled (award_rows b f kw price) (Ok (b.trade.count + 1))) × (b' ≡ kept_or r (awarded b f kw price) b)
+    (r ≡ ruled (award_rows b f kw price) (Ok (length b.trade.items + 1))) × (b' ≡ kept_or r (awarded b f kw price) b)
 Allowed b (ceding a giver taker kw r) b' =
     (r ≡ ruled (cede_rows b a giver taker kw) (Ok tt)) × (b' ≡ kept_or r (ceded b a giver taker kw) b)
 Allowed b (cutting r) b' = (r ≡ ruled (cut_rows b) (Ok tt)) × (b' ≡ kept_or r (cut b) b)

@@ -1,17 +1,16 @@
 -- Switching: its refusals, and the one facility that it changes. Serves src/switching.rt. Assumes nothing.
-use Rattle.std.specs.Prelude.{ℕ, ◌-◌, Bool, not, [], ◌∷◌, ◌++◌, slice_set}
+use Rattle.std.specs.Prelude.{ℕ, ◌-◌, Bool, not, [], ◌∷◌, ◌++◌, length, slice_set}
 use Rattle.ledger.specs.declared.course.Call.TheVariants as call
 use Rattle.ledger.specs.declared.refusal.Refusal.TheVariants as refusal
 use Rattle.ledger.specs.declared.state.Facility.{Facility}
-use Rattle.ledger.specs.declared.state.Register.{Register}
 use Rattle.ledger.specs.declared.state.Book.{Book}
 use Rattle.ledger.specs.Judged.{Rows, given_out}
 use Rattle.ledger.specs.Course.{course}
-use Rattle.ledger.specs.Form.{facility_at}
+use Rattle.ledger.specs.Form.{Register, facility_at}
 use Rattle.ledger.specs.Changes.{with_register}
 
 abbrev pub switch_rows : Book → ℕ → Rows
-switch_rows b f = course call.Switch b.stage ++ (not (given_out f b.register.count), refusal.NoFacility) ∷ []
+switch_rows b f = course call.Switch b.stage ++ (not (given_out f (length b.register.items)), refusal.NoFacility) ∷ []
 
 -- the facility, on or off
 abbrev pub set_on : Facility → Bool → Facility
@@ -19,7 +18,7 @@ set_on x on = record { letter = x.letter; firm = x.firm; on = on }
 
 -- the register with the facility f on or off
 abbrev pub put_switch : Register → ℕ → Bool → Register
-put_switch r f on = record { facilities = slice_set r.facilities (f - 1) (set_on (facility_at r (f - 1)) on); count = r.count }
+put_switch r f on = record { items = slice_set r.items (f - 1) (set_on (facility_at r (f - 1)) on) }
 
 abbrev pub switched : Book → ℕ → Bool → Book
 switched b f on = with_register b (put_switch b.register f on)

@@ -1,5 +1,5 @@
 //! Awarding kW to a facility.
-ghost use Rattle.std.specs.Prelude.{◌≡◌, ◌+◌, ◌∷◌, Ok};
+ghost use Rattle.std.specs.Prelude.{◌≡◌, ◌+◌, ◌≤◌, ◌∷◌, length, Ok};
 ghost use Rattle.ledger.specs.Judged.{judged, plainly, ruled, kept_or};
 ghost use Rattle.ledger.specs.Awarding.{over_firm, right_award, award_rows, new_award, awarded};
 ghost use Rattle.ledger.specs.Entries.{Journal, awarding};
@@ -8,7 +8,7 @@ ghost use Rattle.ledger.specs.Runs.{Recorded};
 use crate::course::Call;
 use crate::kept::Ledger;
 use crate::numbers::FacilityNumber;
-use crate::state::{Award, MOST_AWARDS, MOST_FACILITIES};
+use crate::state::{Award, MOST_FACILITIES};
 use crate::{LedgerFault, Refusal};
 
 /// The fewest kW of an award.
@@ -21,15 +21,13 @@ const MOST_PRICE: u32 = 100_000;
 impl Ledger {
     /// Awards kW to a facility, which then holds them all, and answers the award's number.
     pub fn award(&mut self, facility: u32, kw: u32, price: u32) -> Result<u32, LedgerFault>
-        ensures answer { result ≡ ruled (award_rows self.old.book facility kw price) (Ok (self.old.book.trade.count + 1)) }
+        ensures answer { result ≡ ruled (award_rows self.old.book facility kw price) (Ok (length self.old.book.trade.items + 1)) }
         ensures after { self.new.book ≡ kept_or result (awarded self.old.book facility kw price) self.old.book }
         ensures recorded { (j : Journal) → Recorded j self.old → Recorded (awarding facility kw price result ∷ j) self.new }
     {
         let holder = self.may_award(facility, kw, price)?;
-        let place = self.book.trade.count;
-        self.book.trade.awards[place] = new_award(holder, kw, price);
-        self.book.trade.count = place + 1;
-        Ok(place as u32 + 1)
+        self.book.trade.push(new_award(holder, kw, price));
+        Ok(self.book.trade.len() as u32)
     }
 
     /// The facility, where these kW may be awarded to it at this price.
@@ -37,7 +35,7 @@ impl Ledger {
         ensures { plainly (λ n. n.number) result ≡ judged (award_rows self.now.book facility kw price) facility }
     {
         let facility = self.admitted(Call::Award, facility)?;
-        if self.book.trade.count >= MOST_AWARDS {
+        if self.book.trade.is_full() {
             return Err(Refusal::NoRoom);
         }
         if !right_award(kw, price) {
@@ -51,6 +49,7 @@ impl Ledger {
 
     /// Whether the facility would hold more than its firm power with these kW more.
     pub(crate) fn over_firm(&self, facility: FacilityNumber, kw: u32) -> bool
+        requires { facility.number ≤ length self.now.book.register.items }
         ensures { result ≡ over_firm self.now.book facility.number kw }
     {
         let held = self.commitment(facility);

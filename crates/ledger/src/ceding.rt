@@ -19,7 +19,7 @@ impl Ledger {
         ensures recorded { (j : Journal) → Recorded j self.old → Recorded (ceding award giver taker kw result ∷ j) self.new }
     {
         let (award, giver, taker) = self.may_cede(award, giver, taker, kw)?;
-        shift(&mut self.book.trade.awards[award.place()], giver, taker, kw);
+        shift(&mut self.book.trade[award.place()], giver, taker, kw);
         Ok(())
     }
 

@@ -53,7 +53,7 @@ impl Book {
         ensures { self.new ≡ booked_month self.old lines stage }
     {
         let place = self.stage.month() as usize - 1;
-        self.lines[place] = lines;
+        self.lines.months[place] = lines;
         self.month = NEW_MONTH;
         self.stage = stage;
     }

@@ -1,6 +1,6 @@
 //! Who holds how many kW. Every other part of the crate reads a facility's kW under an award here.
-ghost use Rattle.std.specs.Prelude.{◌≡◌, ◌-◌, ◌<◌};
-ghost use Rattle.ledger.specs.Form.{given_awards, holdings, award_at, held_under, held_in_all};
+ghost use Rattle.std.specs.Prelude.{◌≡◌, ◌-◌, ◌<◌, ◌≤◌, length};
+ghost use Rattle.ledger.specs.Form.{holdings, award_at, held_under, held_in_all};
 
 use crate::kept::Ledger;
 use crate::numbers::{AwardNumber, FacilityNumber};
@@ -9,9 +9,10 @@ use crate::state::{Award, MOST_FACILITIES};
 impl Ledger {
     /// The kW that the facility holds under the award.
     pub(crate) fn held(&self, award: AwardNumber, facility: FacilityNumber) -> u32
+        requires { award.number ≤ length self.now.book.trade.items }
         ensures { result ≡ held_under (facility.number - 1) (award_at self.now.book.trade (award.number - 1)) }
     {
-        held_under(&self.book.trade.awards[award.place()], facility.place())
+        held_under(&self.book.trade[award.place()], facility.place())
     }
 
     /// The facility's commitment: the kW that it holds over all awards.
@@ -25,15 +26,8 @@ impl Ledger {
     pub(crate) fn held_in_all(&self, facility: usize) -> u32
         ensures { result ≡ held_in_all self.now.book.trade facility }
     {
-        let awards = self.given_awards();
-        awards.iter().map(|award| held_under(award, facility)).sum()
-    }
-
-    /// The awards given out.
-    pub(crate) fn given_awards(&self) -> &[Award]
-        ensures { result.now ≡ given_awards self.now.book.trade }
-    {
-        &self.book.trade.awards[..self.book.trade.count]
+        let awards = self.book.trade.iter();
+        awards.map(|award| held_under(award, facility)).sum()
     }
 }
 

@@ -1,5 +1,5 @@
 //! The ledger: its book, with the facts that every book keeps, one each.
-ghost use Rattle.ledger.specs.Form.{Sized, Shaped, Wide, Lined, Booked, Firm, Vacant, Within, Whole, Priced, Dated, month_of};
+ghost use Rattle.ledger.specs.Form.{Sized, Shaped, Wide, Lined, Booked, Firm, Within, Whole, Priced, Dated, month_of};
 
 use crate::state::Book;
 
@@ -13,7 +13,6 @@ pub struct Ledger {
     ghost lined: { Lined book },
     ghost booked: { Booked book },
     ghost firm: { Firm book.register },
-    ghost vacant: { Vacant book.register },
     ghost within: { Within book },
     ghost whole: { Whole book.trade },
     ghost priced: { Priced book.trade },

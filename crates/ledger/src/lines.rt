@@ -24,7 +24,7 @@ impl Ledger {
     pub(crate) fn booked_line(&self, month: MonthNumber, facility: FacilityNumber) -> Line
         ensures { result ≡ booked_line self.now.book month.number facility.number }
     {
-        self.book.lines[month.place()][facility.place()]
+        self.book.lines.months[month.place()][facility.place()]
     }
 }
 

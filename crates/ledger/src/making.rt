@@ -7,23 +7,10 @@ ghost use Rattle.ledger.specs.Runs.{Recorded};
 
 use crate::kept::Ledger;
 use crate::state::{
-    Award, Book, Claim, Facility, Line, MONTHS, MOST_AWARDS, MOST_FACILITIES, Month, Register,
-    Stage, Trade,
+    Book, Claim, Line, Lines, MONTHS, MOST_FACILITIES, Month, Register, Stage, Trade,
 };
 use calendar::Calendar;
 
-/// A facility that was not given out.
-const NO_FACILITY: Facility = Facility {
-    letter: 0,
-    firm: 0,
-    on: false,
-};
-/// An award that was not given out.
-const NO_AWARD: Award = Award {
-    kw: 0,
-    price: 0,
-    held: [0; MOST_FACILITIES],
-};
 /// A month for which nothing has come in.
 pub(crate) const NEW_MONTH: Month = Month {
     measured: [None; MOST_FACILITIES],
@@ -49,15 +36,11 @@ fn blank_book() -> Book
     Book {
         calendar: Calendar::new(),
         stage: Stage::Unopened,
-        register: Register {
-            facilities: [NO_FACILITY; MOST_FACILITIES],
-            count: 0,
-        },
-        trade: Trade {
-            awards: [NO_AWARD; MOST_AWARDS],
-            count: 0,
-        },
+        register: Register::new(),
+        trade: Trade::new(),
         month: NEW_MONTH,
-        lines: [[Line::default(); MOST_FACILITIES]; MONTHS],
+        lines: Lines {
+            months: [[Line::default(); MOST_FACILITIES]; MONTHS],
+        },
     }
 }

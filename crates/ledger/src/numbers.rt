@@ -1,5 +1,5 @@
 //! The numbers of facilities, awards and months: they count from 1, and the places that they stand for from 0.
-ghost use Rattle.std.specs.Prelude.{◌≡◌, ◌-◌, ◌<◌, ◌≤◌, cond, Some, None};
+ghost use Rattle.std.specs.Prelude.{◌≡◌, ◌-◌, ◌<◌, ◌≤◌, cond, length, Some, None};
 ghost use Rattle.std.specs.Option.{option_map};
 
 use crate::Refusal;
@@ -62,21 +62,22 @@ impl Ledger {
     pub(crate) fn find_facility(&self, facility: u32) -> Result<FacilityNumber, Refusal>
         ensures { plainly (λ n. n.number) result ≡ judged (facility_given self.now.book facility) facility }
     {
-        Number::given(facility, self.book.register.count).ok_or(Refusal::NoFacility)
+        Number::given(facility, self.book.register.len()).ok_or(Refusal::NoFacility)
     }
 
     /// What is registered of the facility.
     pub(crate) fn facility(&self, facility: FacilityNumber) -> &Facility
+        requires { facility.number ≤ length self.now.book.register.items }
         ensures { result.now ≡ facility_at self.now.book.register (facility.number - 1) }
     {
-        &self.book.register.facilities[facility.place()]
+        &self.book.register[facility.place()]
     }
 
     /// The award of this number, if it was given out.
     pub(crate) fn find_award(&self, award: u32) -> Result<AwardNumber, Refusal>
         ensures { plainly (λ n. n.number) result ≡ judged (award_given self.now.book award) award }
     {
-        Number::given(award, self.book.trade.count).ok_or(Refusal::NoAward)
+        Number::given(award, self.book.trade.len()).ok_or(Refusal::NoAward)
     }
 
     /// The month of this number, if it is closed.

@@ -1,5 +1,5 @@
 //! Readings of a ledger: they refuse nothing and change nothing.
-ghost use Rattle.std.specs.Prelude.{◌≡◌};
+ghost use Rattle.std.specs.Prelude.{◌≡◌, length};
 ghost use Rattle.ledger.specs.Form.{Bounded};
 ghost use Rattle.ledger.specs.Lines.{closed_months};
 ghost use Rattle.ledger.specs.Readings.{holding_at, booked_at};
@@ -18,16 +18,16 @@ impl Ledger {
 
     /// How many facilities are registered.
     pub fn facilities(&self) -> u32
-        ensures { result ≡ self.now.book.register.count }
+        ensures { result ≡ length self.now.book.register.items }
     {
-        self.book.register.count as u32
+        self.book.register.len() as u32
     }
 
     /// How many awards are taken.
     pub fn awards(&self) -> u32
-        ensures { result ≡ self.now.book.trade.count }
+        ensures { result ≡ length self.now.book.trade.items }
     {
-        self.book.trade.count as u32
+        self.book.trade.len() as u32
     }
 
     /// How many months are closed.

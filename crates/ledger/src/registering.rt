@@ -7,7 +7,7 @@ ghost use Rattle.ledger.specs.Runs.{Recorded};
 
 use crate::course::{Call, turn};
 use crate::kept::Ledger;
-use crate::state::{Facility, MOST_FACILITIES};
+use crate::state::Facility;
 use crate::{LedgerFault, Refusal};
 
 /// The most modules of a facility.
@@ -36,7 +36,7 @@ impl Ledger {
         count: u32,
         access: u32,
     ) -> Result<u32, LedgerFault>
-        ensures answer { result ≡ ruled (register_rows self.old.book letter modules count access) (Ok (self.old.book.register.count + 1)) }
+        ensures answer { result ≡ ruled (register_rows self.old.book letter modules count access) (Ok (length self.old.book.register.items + 1)) }
         ensures after { self.new.book ≡ kept_or result (registered self.old.book letter (firm_power modules count access)) self.old.book }
         ensures recorded { (j : Journal) → Recorded j self.old → Recorded (registering letter modules count access result ∷ j) self.new }
     {
@@ -48,28 +48,26 @@ impl Ledger {
         };
         let number = self.may_register(&figures)?;
         let firm = figures.firm_power();
-        let place = self.book.register.count;
-        self.book.register.facilities[place] = Facility {
+        self.book.register.push(Facility {
             letter,
             firm,
             on: false,
-        };
-        self.book.register.count = place + 1;
+        });
         Ok(number)
     }
 
     /// The number that the facility gets, or why it is not registered.
     fn may_register(&self, figures: &Figures) -> Result<u32, Refusal>
-        ensures { result ≡ judged (register_rows self.now.book figures.now.letter figures.now.modules figures.now.count figures.now.access) (self.now.book.register.count + 1) }
+        ensures { result ≡ judged (register_rows self.now.book figures.now.letter figures.now.modules figures.now.count figures.now.access) (length self.now.book.register.items + 1) }
     {
         turn(self.book.stage, Call::Register)?;
-        if self.book.register.count >= MOST_FACILITIES {
+        if self.book.register.is_full() {
             return Err(Refusal::NoRoom);
         }
         if !figures.are_right() {
             return Err(Refusal::OutOfLimits);
         }
-        Ok(self.book.register.count as u32 + 1)
+        Ok(self.book.register.len() as u32 + 1)
     }
 }
 

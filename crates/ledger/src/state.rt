@@ -1,6 +1,8 @@
 //! What a ledger keeps, as plain data: the facts that every ledger keeps stand beside it, in `Ledger`.
+use arrayvec::ArrayVec;
 use calendar::Calendar;
 use metering::Measured;
+use std::marker::Model;
 
 /// The most facilities that a ledger registers.
 pub const MOST_FACILITIES: usize = 64;
@@ -26,7 +28,7 @@ pub enum Stage {
 }
 
 /// A facility of the register: its kind's letter, its firm power in kW, and whether it is switched on.
-#[derive(Clone, Copy)]
+#[derive(Clone, Copy, Default)]
 pub struct Facility {
     pub letter: u8,
     pub firm: u32,
@@ -34,14 +36,10 @@ pub struct Facility {
 }
 
 /// The facilities that were registered, in the order of their numbers.
-#[derive(Clone, Copy)]
-pub struct Register {
-    pub facilities: [Facility; MOST_FACILITIES],
-    pub count: usize,
-}
+pub type Register = ArrayVec<Facility, MOST_FACILITIES>;
 
 /// An award: its kW, its price in euros a firm MW and year, and the kW of it that each facility holds.
-#[derive(Clone, Copy)]
+#[derive(Clone, Copy, Default)]
 pub struct Award {
     pub kw: u32,
     pub price: u32,
@@ -49,11 +47,7 @@ pub struct Award {
 }
 
 /// The awards that were taken, in the order of their numbers.
-#[derive(Clone, Copy)]
-pub struct Trade {
-    pub awards: [Award; MOST_AWARDS],
-    pub count: usize,
-}
+pub type Trade = ArrayVec<Award, MOST_AWARDS>;
 
 /// A facility's claim in a month.
 #[derive(Clone, Copy, PartialEq, Eq, Debug)]
@@ -77,6 +71,21 @@ pub struct Line {
     pub penalty: u64,
 }
 
+/// The lines of each month, one for each facility.
+#[derive(Drop)]
+pub struct Lines {
+    pub months: [[Line; MOST_FACILITIES]; MONTHS],
+}
+
+impl Model for Lines {
+    ghost use Rattle.std.specs.Prelude.{List};
+    ghost use Rattle.ledger.specs.declared.state.Line.{Line as OneLine};
+
+    ghost Value = { List (List OneLine) };
+
+    ghost view = { λ lines. lines.months };
+}
+
 /// All that a ledger keeps.
 #[derive(Drop)]
 pub struct Book {
@@ -85,5 +94,5 @@ pub struct Book {
     pub register: Register,
     pub trade: Trade,
     pub month: Month,
-    pub lines: [[Line; MOST_FACILITIES]; MONTHS],
+    pub lines: Lines,
 }

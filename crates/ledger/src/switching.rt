@@ -1,15 +1,14 @@
 //! Switching a facility on or off.
 ghost use Rattle.std.specs.Prelude.{◌≡◌, ◌∷◌, Ok};
 ghost use Rattle.ledger.specs.Judged.{ruled, kept_or};
-ghost use Rattle.ledger.specs.Switching.{switch_rows, set_on, put_switch, switched};
+ghost use Rattle.ledger.specs.Switching.{switch_rows, set_on, switched};
 ghost use Rattle.ledger.specs.Entries.{Journal, switching};
 ghost use Rattle.ledger.specs.Runs.{Recorded};
 
 use crate::LedgerFault;
 use crate::course::Call;
 use crate::kept::Ledger;
-use crate::numbers::FacilityNumber;
-use crate::state::{Facility, Register};
+use crate::state::Facility;
 
 impl Ledger {
     /// Puts a facility's switch; all others stay.
@@ -20,17 +19,8 @@ impl Ledger {
         ensures recorded { (j : Journal) → Recorded j self.old → Recorded (switching facility on result ∷ j) self.new }
     {
         let facility = self.admitted(Call::Switch, facility)?;
-        self.book.register.put_switch(facility, on);
+        set_on(&mut self.book.register[facility.place()], on);
         Ok(())
-    }
-}
-
-impl Register {
-    /// Switches the facility on or off; all others stay.
-    fn put_switch(&mut self, facility: FacilityNumber, on: bool)
-        ensures { self.new ≡ put_switch self.old facility.number on }
-    {
-        set_on(&mut self.facilities[facility.place()], on);
     }
 }
 

@@ -1,6 +1,7 @@
-use Rattle.std.proofs.Common.{◌≡◌, ℕ, ◌+◌, set, Ok, sym, subst, rules}
+use Rattle.std.proofs.Common.{◌≡◌, ℕ, ◌+◌, [], ◌∷◌, ◌++◌, length, Ok, sym, ap, ◌∙◌, subst, rules}
 use Rattle.ledger.specs.declared.state.Award.{Award}
 use Rattle.ledger.specs.declared.state.Book.{Book}
+use Rattle.ledger.specs.Form.{Trade}
 use Rattle.ledger.specs.Changes.{with_trade}
 use Rattle.ledger.specs.Awarding.{award_rows, new_award, awarded}
 use Rattle.ledger.specs.Runs.{noted}
@@ -14,20 +15,22 @@ pub returns-in_err-holder : goal.returns-in_err-holder
 returns-in_err-holder c =
     let b = c.args.self.now.book in
     let f = c.args.facility in
-    let exit = refused_exit (award_rows b f c.args.kw c.args.price) f (Ok (b.trade.count + 1)) c.in_err-holder.field-0.0 c.from_residual.result c.in_err-holder.ensures c.from_residual.ensures.1 in
+    let exit = refused_exit (award_rows b f c.args.kw c.args.price) f (Ok (length b.trade.items + 1)) c.in_err-holder.field-0.0 c.from_residual.result c.in_err-holder.ensures c.from_residual.ensures.1 in
     let after = exit.1 (awarded b f c.args.kw c.args.price) b in
     record { answer = exit.0; after = after; recorded = λ j h. noted j _ c.args.self.now _ h (exit.0, after) }
 
--- the book with a new award, all of whose kW facility n holds, is the awarded one
-is_awarded : (b : Book) (f kw price n : ℕ) (new : Award) → n ≡ f → new ≡ new_award n kw price → with_trade b (record { awards = set b.trade.awards b.trade.count new; count = b.trade.count + 1 }) ≡ awarded b f kw price
-is_awarded b f kw price n new own is = cc
+-- the book with a new award pushed, all of whose kW facility n holds, is the awarded one
+is_awarded : (b : Book) (f kw price n : ℕ) (new : Award) (trade : Trade) → trade.items ≡ b.trade.items ++ new ∷ [] → n ≡ f → new ≡ new_award n kw price → with_trade b trade ≡ awarded b f kw price
+is_awarded b f kw price n new trade pushed own is =
+    let all = pushed ∙ ap (λ x. b.trade.items ++ x ∷ []) (is ∙ ap (λ k. new_award k kw price) own) in
+    λ i. with_trade b (record { items = all i })
 
 pub returns-clause-recorded : goal.returns-clause-recorded
 returns-clause-recorded c =
     let b = c.args.self.now.book in
     let f = c.args.facility in
     let own = accepted_value (award_rows b f c.args.kw c.args.price) f c.in_ok-holder.holder.number c.in_ok-holder.ensures in
-    λ j h. noted j _ c.args.self.now _ h (search rules, is_awarded b f c.args.kw c.args.price _ c.new_award.result own c.new_award.ensures)
+    λ j h. noted j _ c.args.self.now _ h (search rules, is_awarded b f c.args.kw c.args.price _ c.new_award.result c.push.new.self c.push.ensures.items own c.new_award.ensures)
 
 pub invariant_of-self : goal.invariant_of-self
 invariant_of-self c =
@@ -35,4 +38,4 @@ invariant_of-self c =
     let f = c.args.facility in
     let own = accepted_value (award_rows b f c.args.kw c.args.price) f c.in_ok-holder.holder.number c.in_ok-holder.ensures in
     let ok = awardable b f c.args.kw c.args.price f c.in_ok-holder.holder.number (sym c.in_ok-holder.ensures) in
-    subst Kept (sym (is_awarded b f c.args.kw c.args.price _ c.new_award.result own c.new_award.ensures)) (awarded_kept c.args.self.now f c.args.kw c.args.price ok)
+    subst Kept (sym (is_awarded b f c.args.kw c.args.price _ c.new_award.result c.push.new.self c.push.ensures.items own c.new_award.ensures)) (awarded_kept c.args.self.now f c.args.kw c.args.price ok)
