@@ -71,7 +71,7 @@ pub struct Line {
     pub penalty: u64,
 }
 
-/// The lines of each month, one for each facility.
+/// The lines of each month, one for each facility. A clause sees them as the list of the months' lines.
 #[derive(Drop)]
 pub struct Lines {
     pub months: [[Line; MOST_FACILITIES]; MONTHS],
