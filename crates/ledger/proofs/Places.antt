@@ -2,7 +2,7 @@
 use Rattle.std.proofs.Common.{◌≡◌, ℕ, zero, suc, ◌<◌, ◌≢◌, List, [], ◌∷◌, ◌++◌, length, get_or, set, replicate, sym, refl, ap, ◌∙◌, subst, ⊎_elim, arith}
 use Rattle.std.specs.List.{refill}
 use Rattle.arrayvec.specs.ArrayVec.{ArrayVec, with_item, with_items}
-use Rattle.std.proofs.lemmas.List.{get_or-set_same, get_or-set_other, get_or_push, length-set}
+use Rattle.std.proofs.lemmas.List.{get_or-set_same, get_or-set_other, length-set}
 use Rattle.std.proofs.lemmas.Bool.{cases_eq}
 
 -- a fact of every place, where one place is changed
@@ -12,19 +12,12 @@ each_set P xs i x d inside here there j =
     (λ same. subst (λ k. P k (get_or (set xs i x) k d)) (sym same) (subst (P i) (sym (get_or-set_same xs i x d inside)) here))
     (λ other. subst (P j) (sym (get_or-set_other xs i j x d other)) (there j other)) (cases_eq j i)
 
--- where one item is pushed, every other place stays
-pub push_other : {A : Type 0} (xs : List A) (x d : A) (i : ℕ) → i ≢ length xs → get_or (xs ++ x ∷ []) i d ≡ get_or xs i d
-push_other [] x d zero other = absurd (other refl)
-push_other [] x d (suc i) other = refl
-push_other (y ∷ ys) x d zero other = refl
-push_other (y ∷ ys) x d (suc i) other = push_other ys x d i (λ same. other (ap suc same))
-
 -- a fact of every place, where one item is pushed
 pub each_push : {A : Type 0} (P : ℕ → A → Type 0) (xs : List A) (x d : A) → P (length xs) x → ((j : ℕ) → j ≢ length xs → P j (get_or xs j d)) → (j : ℕ) → P j (get_or (xs ++ x ∷ []) j d)
-each_push P xs x d here there j =
-    ⊎_elim
-    (λ same. subst (λ k. P k (get_or (xs ++ x ∷ []) k d)) (sym same) (subst (P (length xs)) (sym (get_or_push xs x d (length xs) refl)) here))
-    (λ other. subst (P j) (sym (push_other xs x d j other)) (there j other)) (cases_eq j (length xs))
+each_push P [] x d here there zero = here
+each_push P [] x d here there (suc j) = there (suc j) (λ same. omega (arith, same))
+each_push P (y ∷ ys) x d here there zero = there zero (λ same. omega (arith, same))
+each_push P (y ∷ ys) x d here there (suc j) = each_push (λ k. P (suc k)) ys x d here (λ k other. there (suc k) (λ same. other (omega (arith, same)))) j
 
 -- as many items as a list has, written over it, are all that it has then
 refill_whole : {A : Type 0} (xs ws : List A) → length ws ≡ length xs → refill (length xs) xs ws ≡ ws

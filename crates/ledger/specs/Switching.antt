@@ -6,7 +6,7 @@ use Rattle.ledger.specs.declared.state.Facility.{Facility}
 use Rattle.ledger.specs.declared.state.Book.{Book}
 use Rattle.ledger.specs.Judged.{Rows, given_out}
 use Rattle.ledger.specs.Course.{course}
-use Rattle.ledger.specs.Form.{Register, no_facility}
+use Rattle.ledger.specs.Form.{no_facility}
 use Rattle.ledger.specs.Changes.{with_register}
 
 abbrev pub switch_rows : Book → ℕ → Rows
@@ -17,12 +17,8 @@ abbrev pub set_on : Facility → Bool → Facility
 set_on x on = record { letter = x.letter; firm = x.firm; on = on }
 
 -- the facilities with the facility f on or off
-abbrev pub switched_at : List Facility → ℕ → Bool → List Facility
-switched_at facilities f on = slice_set facilities (f - 1) (set_on (slice_index_or facilities (f - 1) no_facility) on)
-
--- the register with the facility f on or off
-abbrev pub put_switch : Register → ℕ → Bool → Register
-put_switch r f on = record { items = switched_at r.items f on }
+abbrev pub put_switch : List Facility → ℕ → Bool → List Facility
+put_switch facilities f on = slice_set facilities (f - 1) (set_on (slice_index_or facilities (f - 1) no_facility) on)
 
 abbrev pub switched : Book → ℕ → Bool → Book
-switched b f on = with_register b (put_switch b.register f on)
+switched b f on = with_register b (record { items = put_switch b.register.items f on })

@@ -102,6 +102,7 @@ impl From<Refusal> for LedgerFault {
     }
 }
 
+/// Writes the name of its crate.
 impl fmt::Display for Layer {
     ghost output = { λ layer. Some (layer_text layer) };
 
@@ -115,6 +116,7 @@ impl fmt::Display for Layer {
     }
 }
 
+/// Writes the refusal's number, its layer and its place.
 impl fmt::Display for LedgerFault {
     ghost output = { λ fault. Some (fault_text fault) };
 

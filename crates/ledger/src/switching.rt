@@ -1,7 +1,7 @@
 //! Switching a facility on or off.
 ghost use Rattle.std.specs.Prelude.{◌≡◌, ◌≤◌, ◌∷◌, length, Ok};
 ghost use Rattle.ledger.specs.Judged.{ruled, kept_or};
-ghost use Rattle.ledger.specs.Switching.{switch_rows, set_on, switched_at, switched};
+ghost use Rattle.ledger.specs.Switching.{switch_rows, set_on, put_switch, switched};
 ghost use Rattle.ledger.specs.Entries.{Journal, switching};
 ghost use Rattle.ledger.specs.Runs.{Recorded};
 
@@ -28,7 +28,7 @@ impl Ledger {
 /// Switches the facility on or off; all others stay.
 fn put_switch(facilities: &mut [Facility], facility: FacilityNumber, on: bool)
     requires { facility.number ≤ length facilities.old }
-    ensures { facilities.new ≡ switched_at facilities.old facility.number on }
+    ensures { facilities.new ≡ put_switch facilities.old facility.number on }
 {
     set_on(&mut facilities[facility.place()], on);
 }

@@ -26,7 +26,7 @@ pub fn report_early(rt: &impl Abort, ledger: &mut Ledger) -> Result<(), Fail> {
     barred(
         rt,
         22,
-        report::<Storage>(ledger, &[STORED; 44], untested()),
+        report::<Storage>(ledger, &[STORED; 44], None),
         7,
     )
 }

@@ -40,6 +40,7 @@ impl MeteringFault {
     }
 }
 
+/// Writes the refusal's number, its layer and its place.
 impl fmt::Display for MeteringFault {
     ghost output = { λ fault. Some (text fault) };
 

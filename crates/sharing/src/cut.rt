@@ -2,7 +2,7 @@
 ghost use Rattle.std.specs.Prelude.{◌≡◌, ◌-◌, if◌then◌else◌, nat_eq, nat_le};
 ghost use Rattle.sharing.specs.Cut.{count_above, Least, cent_at};
 
-/// The cents left over, and the remainders of the rows that they go to, none of which is above `most`.
+/// The cents left over, and the remainders of all rows, the largest of which they go to; none is above `most`.
 #[derive(Clone, Copy)]
 pub(crate) struct LeftOver<'a> {
     pub(crate) cents: u64,

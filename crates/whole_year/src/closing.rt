@@ -16,6 +16,7 @@ pub enum Rule {
     Remainder,
 }
 
+/// Writes its name.
 impl fmt::Display for Rule {
     ghost output = { λ rule. Some (rule_name rule) };
 

@@ -6,7 +6,7 @@ use Rattle.ledger.specs.declared.state.Facility.{Facility}
 use Rattle.ledger.specs.Form.{no_facility}
 use Rattle.ledger.specs.Changes.{with_register}
 use Rattle.ledger.specs.Numbers.{admission}
-use Rattle.ledger.specs.Switching.{set_on, switched_at, switched}
+use Rattle.ledger.specs.Switching.{set_on, put_switch, switched}
 use Rattle.ledger.specs.Runs.{noted}
 use Rattle.ledger.proofs.JudgedRows.{accepted_value}
 use Rattle.ledger.proofs.Places.{item_written}
@@ -16,7 +16,7 @@ pub returns-in_err-facility-clause-recorded : goal.returns-in_err-facility-claus
 returns-in_err-facility-clause-recorded c = search (rules, noted)
 
 -- the book with facility n, which is f, put on or off is the switched one
-is_switched : (b : Book) (f n : ℕ) (on : Bool) (was left : List Facility) → was ≡ b.register.items → n ≡ f → left ≡ switched_at was n on → with_register b (with_items b.register left) ≡ switched b f on
+is_switched : (b : Book) (f n : ℕ) (on : Bool) (was left : List Facility) → was ≡ b.register.items → n ≡ f → left ≡ put_switch was n on → with_register b (with_items b.register left) ≡ switched b f on
 is_switched b f n on was left all own is =
     ap (λ l. with_register b (with_items b.register l)) is
     ∙ ap (with_register b) (item_written b.register was (n - 1) (set_on (get_or was (n - 1) no_facility) on) all) ∙ cc
