@@ -45,7 +45,8 @@ impl fmt::Display for MeteringFault {
     ghost output = { λ fault. Some (text fault) };
 
     fn fmt<W: fmt::Write>(&self, f: &mut fmt::Formatter<W>) -> fmt::Result {
-        let (number, place) = (self.number(), self.place());
+        let number = self.number();
+        let place = self.place();
         write!(f, "{number}, layer metering, place {place}")
     }
 }
