@@ -23,12 +23,7 @@ const DRAWN: DemandHour = DemandHour {
 
 /// Call 22, before the cut-off.
 pub fn report_early(rt: &impl Abort, ledger: &mut Ledger) -> Result<(), Fail> {
-    barred(
-        rt,
-        22,
-        report::<Storage>(ledger, &[STORED; 44], None),
-        7,
-    )
+    barred(rt, 22, report::<Storage>(ledger, &[STORED; 44], None), 7)
 }
 
 /// Calls 25 to 29.
