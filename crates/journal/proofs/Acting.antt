@@ -29,7 +29,7 @@ use Rattle.journal.proofs.LatestActs.{told_figure, one_more}
 use Rattle.journal.proofs.Registers.{Registers, registered_registers, switched_registers}
 use Rattle.journal.proofs.Trading.{Trades, awarded_trades, ceded_trades}
 use Rattle.journal.proofs.Alike.{TradesBy}
-use Rattle.journal.proofs.Simulation.{RegistersBy, Course, YearBy, Simulates, CourseBy}
+use Rattle.journal.proofs.Simulation.{RegistersBy, Course, YearBy, Simulates, CourseBy, reports}
 
 -- the same register by readings that tell the same
 registers_alike : (n n' : ℕ) (firm firm' : ℕ → ℕ) (on on' : ℕ → Bool) (r : Register) → n ≡ n' → ((f : ℕ) → firm f ≡ firm' f) → ((f : ℕ) → on f ≡ on' f) → Registers n firm on r → Registers n' firm' on' r
@@ -79,7 +79,7 @@ module _ (l : Ledger) (h : List Act) (old : Simulates h l.book) where
 
   -- the course of the journal, at the stage that the book is known to be at
   abbrev At : Stage → Type 0
-  At = CourseBy h b.calendar b.month.measured
+  At = CourseBy h b.calendar (reports b.month)
 
   pub opened_simulates : (year : ℕ) (firsts lengths : List ℕ) (c : Calendar) → unopened b.stage ≡ true → (c.year_hours ≡ year) × (runs_of c ≡ given_runs firsts lengths) → Simulates (opened year firsts lengths ∷ h) (opening.opened b c)
   opened_simulates year firsts lengths c not_yet filled =
@@ -90,7 +90,7 @@ module _ (l : Ledger) (h : List Act) (old : Simulates h l.book) where
         numbers = tt;
         trades = trades;
         registers = registers;
-        course = subst (λ s. CourseBy (opened year firsts lengths ∷ []) c b.month.measured (moved call.Open s)) (sym is) (refl, refl, refl, start.1);
+        course = subst (λ s. CourseBy (opened year firsts lengths ∷ []) c (reports b.month) (moved call.Open s)) (sym is) (refl, refl, refl, start.1);
         lines = λ m f from to _ _. absurd (omega (arith, from, to));
         cut_offs = λ m from to. absurd (omega (arith, from, to));
         charges = tt;
@@ -121,7 +121,7 @@ module _ (l : Ledger) (h : List Act) (old : Simulates h l.book) where
         numbers = old.numbers;
         trades = old.trades;
         registers = registers_alike _ _ _ _ _ _ _ refl (λ g. refl) (λ g. sym (told_figure (λ x. x) (eqb g f) v (latest (switch_of g) h) false)) (switched_registers _ _ _ b old.registers f v from to);
-        course = subst (CourseBy (act ∷ h) b.calendar b.month.measured) (sym is) (subst At is old.course);
+        course = subst (CourseBy (act ∷ h) b.calendar (reports b.month)) (sym is) (subst At is old.course);
         lines = old.lines;
         cut_offs = old.cut_offs;
         charges = old.charges;
@@ -141,7 +141,7 @@ module _ (l : Ledger) (h : List Act) (old : Simulates h l.book) where
         numbers = (refl, old.numbers);
         trades = trades_alike _ _ _ _ _ _ _ _ _ _ _ (sym (one_more is_award act h refl)) (λ a. sym (told_figure (λ x. x.0) (eqb a (n + 1)) (kw, price) (latest (terms_of a) h) (0, 0))) (λ a. sym (told_figure (λ x. x.1) (eqb a (n + 1)) (kw, price) (latest (terms_of a) h) (0, 0))) (λ a g. sym (sum_by-cons (brought a g) act h)) (λ a g. refl) made;
         registers = old.registers;
-        course = subst (CourseBy (act ∷ h) b.calendar b.month.measured) (sym is) now;
+        course = subst (CourseBy (act ∷ h) b.calendar (reports b.month)) (sym is) now;
         lines = old.lines;
         cut_offs = old.cut_offs;
         charges = old.charges;
@@ -157,7 +157,7 @@ module _ (l : Ledger) (h : List Act) (old : Simulates h l.book) where
         numbers = old.numbers;
         trades = trades_alike _ _ _ _ _ _ _ _ _ _ _ refl (λ x. refl) (λ x. refl) (λ x g. sym (sum_by-cons (brought x g) act h)) (λ x g. sym (sum_by-cons (lost x g) act h)) moved-kw;
         registers = old.registers;
-        course = subst (CourseBy (act ∷ h) b.calendar b.month.measured) (sym is) (subst At is old.course);
+        course = subst (CourseBy (act ∷ h) b.calendar (reports b.month)) (sym is) (subst At is old.course);
         lines = old.lines;
         cut_offs = old.cut_offs;
         charges = old.charges;

@@ -25,7 +25,7 @@ use Rattle.journal.proofs.Bounded.{line_bounded}
 use Rattle.journal.proofs.Balance.{balance}
 use Rattle.journal.proofs.BookReadings.{read_line, holding_is}
 use Rattle.journal.proofs.Alike.{holdings_by, trade_is}
-use Rattle.journal.proofs.Simulation.{Course, CourseBy, Simulates}
+use Rattle.journal.proofs.Simulation.{Course, CourseBy, Simulates, reports}
 use Rattle.journal.proofs.Theorem.{simulated}
 
 -- the stage says how many months are closed
@@ -96,7 +96,7 @@ module _ (h : List Act) (l : Ledger) (says : Simulates h l.book) where
   holds : Holds h b
   holds = record {
     calendar = says.calendar;
-    stage = staged b.stage h b.calendar b.month.measured says.course;
+    stage = staged b.stage h b.calendar (reports b.month) says.course;
     numbers = says.numbers;
     facility_numbers = says.registers.count;
     award_numbers = says.trades.count;

@@ -1,9 +1,10 @@
 -- What a book has is what the acts of its journal say of it, part by part. Assumes nothing.
-use Rattle.std.proofs.Common.{◌≡◌, ℕ, ◌+◌, ◌-◌, ◌<◌, ◌≤◌, List, [], get_or, None, sum_by, count_by, Option, unwrap_or}
+use Rattle.std.proofs.Common.{◌≡◌, ℕ, ◌+◌, ◌-◌, ◌<◌, ◌≤◌, List, [], map, get_or, None, sum_by, count_by, Option, unwrap_or}
 use Rattle.std.specs.List.{range_with_len}
 use Rattle.calendar.specs.declared.year.Calendar.{Calendar}
 use Rattle.metering.specs.declared.measuring.Measured.{Measured}
 use Rattle.ledger.specs.declared.state.Book.{Book}
+use Rattle.ledger.specs.declared.state.Filed.{Filed}
 use Rattle.ledger.specs.declared.state.Line.{Line}
 use Rattle.ledger.specs.declared.state.Stage.{Stage}
 use Rattle.ledger.specs.declared.state.Stage.TheVariants.{Unopened, Month, Finished}
@@ -18,6 +19,10 @@ use Rattle.journal.proofs.Alike.{TradesBy}
 -- what a register has, by the acts of a journal
 abbrev pub RegistersBy : List Act → Register → Type 0
 RegistersBy h r = Registers (count_by is_registering h) (firm h) (on h) r
+
+-- the reports of a month
+abbrev pub reports : List Filed → List (Option Measured)
+reports month = map (λ x. x.measured) month
 
 -- no report has come in
 abbrev pub Unreported : List (Option Measured) → Type 0
@@ -63,7 +68,7 @@ pub record Simulates (h : List Act) (b : Book) : Type 0 where
   pub numbers : Numbered h
   pub trades : TradesBy h b.trade
   pub registers : RegistersBy h b.register
-  pub course : CourseBy h b.calendar b.month.measured b.stage
+  pub course : CourseBy h b.calendar (reports b.month) b.stage
   pub lines : LinesBy h b.calendar b.lines (count_by is_closing h)
   pub cut_offs : CutOffs h (count_by is_closing h)
   pub charges : Charges b.calendar h

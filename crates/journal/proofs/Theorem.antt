@@ -1,6 +1,6 @@
 -- The law of the journal, by induction on its entries: every book that a journal is recorded of has what the journal's acts
 -- say. Assumes nothing.
-use Rattle.std.proofs.Common.{◌≡◌, ℕ, ◌+◌, ◌-◌, Bool, true, false, ◌&&◌, eqb, ltb, List, [], ◌∷◌, length, set, None, Ok, Err, sum, Result, sym, refl, ap, ◌∙◌, subst, inl, inr, arith}
+use Rattle.std.proofs.Common.{◌≡◌, ℕ, ◌+◌, Bool, true, false, ◌&&◌, eqb, ltb, List, [], ◌∷◌, length, None, Ok, Err, sum, Result, sym, refl, ap, ◌∙◌, subst, inl, inr, arith}
 use Rattle.std.proofs.lemmas.Bool.{cases_Bool, cond-true, cond-false, eqb-false, ltb-false, and_cases}
 use Rattle.metering.specs.declared.measuring.Measured.{Measured}
 use Rattle.metering.specs.declared.fault.MeteringFault.{MeteringFault}
@@ -44,7 +44,7 @@ use Rattle.journal.specs.Acts.{Act, acts, registered, awarded}
 use Rattle.journal.proofs.Tables.{registrable, switchable, award_stage, cede_stage, cut_stage, reportable, answerable, advanceable, closable}
 use Rattle.journal.proofs.Simulation.{Simulates}
 use Rattle.journal.proofs.Acting.{opened_simulates, registered_simulates, switched_simulates, awarded_simulates, ceded_simulates}
-use Rattle.journal.proofs.Metering.{cut_simulates, reported_simulates, claims_simulates, advanced_simulates}
+use Rattle.journal.proofs.Metering.{cut_simulates, reported_simulates, claims_simulate, advanced_simulates}
 use Rattle.journal.proofs.Charging.{charged_by_rule}
 use Rattle.journal.proofs.Closing.{closed_simulates}
 
@@ -136,14 +136,14 @@ module _ (l : Ledger) (j : Journal) (old : Simulates (acts j) l.book) where
       let accepted = passed (letter_rows call.Report b f x.letter) (taken (measured_by b f x)) u t.0 in
       let ok = reportable b f x.letter accepted.0 in
       let came = taken_measured (measured_by b f x) u accepted.1 in
-      same_book _ _ b' (t.1 ∙ ap (with_measured b f) came.1) (reported_simulates l (acts j) old f x came.0 b.month.claims ok.month Metering (inl refl) ok.stage ok.from_one ok.given came.1)
+      same_book _ _ b' (t.1 ∙ ap (with_measured b f) came.1) (reported_simulates l (acts j) old f x came.0 ok.month Metering (inl refl) ok.stage ok.from_one ok.given came.1)
 
   upholding_step : (f : ℕ) (x : Reported) (u : Unit {0}) (b' : Book) → Allowed b (upholding f x (Ok u)) b' → Simulates (acts (upholding f x (Ok u) ∷ j)) b'
   upholding_step f x u b' t =
       let accepted = passed (letter_rows call.Answer b f x.letter) (upheld_by (measured_by b f x) (claim_of b f)) u t.0 in
       let ok = answerable b f x.letter accepted.0 in
       let came = upheld_measured (measured_by b f x) (claim_of b f) u accepted.1 in
-      same_book _ _ b' (t.1 ∙ ap (upheld b f) came.1) (reported_simulates l (acts j) old f x came.0 (set b.month.claims (f - 1) claim.Answered) ok.month Claims (inr refl) ok.stage ok.from_one ok.given came.1)
+      same_book _ _ b' (t.1 ∙ ap (upheld b f) came.1) (claims_simulate _ _ f claim.Answered (reported_simulates l (acts j) old f x came.0 ok.month Claims (inr refl) ok.stage ok.from_one ok.given came.1))
 
   advancing_step : (rule : Rule) (rows : List Row) (total : ℕ) (left : List Row) (b' : Book) → Allowed b (advancing rule rows (Ok total) left) b' → Simulates (acts (advancing rule rows (Ok total) left ∷ j)) b'
   advancing_step rule rows total left b' t =
@@ -179,9 +179,9 @@ module _ (l : Ledger) (j : Journal) (old : Simulates (acts j) l.book) where
   step (reporting f x (Err e)) b' t = same_book _ b b' t.1 old
   step (advancing rule rows (Ok total) left) b' t = advancing_step rule rows total left b' t
   step (advancing rule rows (Err e) left) b' t = same_book _ b b' t.3 old
-  step (claiming f (Ok u)) b' t = same_book _ _ b' t.1 (claims_simulates l (acts j) old (set b.month.claims (f - 1) claim.Open))
+  step (claiming f (Ok u)) b' t = same_book _ _ b' t.1 (claims_simulate (acts j) b f claim.Open old)
   step (claiming f (Err e)) b' t = same_book _ b b' t.1 old
-  step (dismissing f (Ok u)) b' t = same_book _ _ b' t.1 (claims_simulates l (acts j) old (set b.month.claims (f - 1) claim.Answered))
+  step (dismissing f (Ok u)) b' t = same_book _ _ b' t.1 (claims_simulate (acts j) b f claim.Answered old)
   step (dismissing f (Err e)) b' t = same_book _ b b' t.1 old
   step (upholding f x (Ok u)) b' t = upholding_step f x u b' t
   step (upholding f x (Err e)) b' t = same_book _ b b' t.1 old

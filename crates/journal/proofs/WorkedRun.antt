@@ -1,5 +1,5 @@
 -- The worked run, recorded step by step by computing what each call answers and leaves. Assumes nothing.
-use Rattle.std.proofs.Common.{ℕ, true, [], ◌∷◌, set, Some, Ok, refl, ◌∙◌, arith, lit≤}
+use Rattle.std.proofs.Common.{ℕ, ◌-◌, true, [], ◌∷◌, Ok, refl, ◌∙◌, arith, lit≤}
 use Rattle.std.proofs.lemmas.List.{length-set}
 use Rattle.calendar.specs.declared.year.Calendar.{Calendar}
 use Rattle.calendar.specs.Months.{first_months}
@@ -16,6 +16,7 @@ use Rattle.ledger.specs.Registering as registering
 use Rattle.ledger.specs.Switching as switching
 use Rattle.ledger.specs.Awarding as awarding
 use Rattle.ledger.specs.Ceding as ceding
+use Rattle.ledger.specs.Reporting.{put_report}
 use Rattle.ledger.specs.Rights.{rights_of}
 use Rattle.ledger.specs.Booking.{month_lines}
 use Rattle.ledger.specs.Closing as closing
@@ -91,20 +92,20 @@ ceded = ledger_of (ceding.ceded both_on.book 1 1 2 500) (ceded_kept both_on 1 1 
 abbrev cut_two : Ledger
 cut_two = ledger_of (with_stage ceded.book (Month 2 Metering)) (staged_kept ceded (Month 2 Metering) (lit≤ tt, lit≤ tt))
 
--- the ledger with a report of one hour, credited with these kWh, at a place
+-- the ledger with a report of one hour, credited with these kWh, of the facility f
 abbrev with_report : Ledger → ℕ → ℕ → Ledger
-with_report l place credited =
-    let reports = set l.book.month.measured place (Some (record { counted = 1; credited = credited })) in
-    ledger_of (with_month l.book (record { measured = reports; claims = l.book.month.claims })) (month_kept l reports l.book.month.claims (length-set l.book.month.measured place (Some (record { counted = 1; credited = credited })) ∙ l.shaped.0) l.shaped.1)
+with_report l f credited =
+    let month = put_report l.book.month f (record { counted = 1; credited = credited }) in
+    ledger_of (with_month l.book month) (month_kept l month (length-set l.book.month (f - 1) _ ∙ l.shaped.0))
 
 abbrev first_report : Ledger
-first_report = with_report cut_two 0 500
+first_report = with_report cut_two 1 500
 
 abbrev second_report : Ledger
-second_report = with_report first_report 1 0
+second_report = with_report first_report 2 0
 
 abbrev third_report : Ledger
-third_report = with_report second_report 1 240
+third_report = with_report second_report 2 240
 
 abbrev claims_two : Ledger
 claims_two = ledger_of (with_stage third_report.book (Month 2 Claims)) (staged_kept third_report (Month 2 Claims) (lit≤ tt, lit≤ tt))

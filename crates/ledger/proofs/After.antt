@@ -1,11 +1,10 @@
 -- The ledger that an accepted call leaves: its book keeps what every book keeps. Assumes nothing.
-use Rattle.std.proofs.Common.{◌≡◌, ℕ, ◌-◌, ◌<◌, ◌≤◌, Bool, false, List, length, Option, refl, ◌∙◌, arith, lit≤}
+use Rattle.std.proofs.Common.{◌≡◌, ℕ, ◌-◌, ◌<◌, ◌≤◌, Bool, false, List, length, refl, ◌∙◌, arith, lit≤}
 use Rattle.std.proofs.lemmas.List.{length-set, length_push}
 use Rattle.calendar.specs.declared.year.Calendar.{Calendar}
-use Rattle.metering.specs.declared.measuring.Measured.{Measured}
 use Rattle.ledger.specs.declared.kept.Ledger.{Ledger}
 use Rattle.ledger.specs.declared.state.Book.{Book}
-use Rattle.ledger.specs.declared.state.Claim.{Claim}
+use Rattle.ledger.specs.declared.state.Filed.{Filed}
 use Rattle.ledger.specs.declared.state.Stage.{Stage}
 use Rattle.ledger.specs.Form.{no_facility, facility_at, award_at, month_of, Dated, Bounded}
 use Rattle.ledger.specs.Changes.{with_stage, with_calendar, with_month}
@@ -74,10 +73,10 @@ module _ (l : Ledger) where
   }
 
   -- other reports and claims of the month
-  pub month_kept : (measured : List (Option Measured)) (claims : List Claim) → length measured ≡ 64 → length claims ≡ 64 → Kept (with_month b (record { measured = measured; claims = claims }))
-  month_kept measured claims reports claimed = record {
+  pub month_kept : (month : List Filed) → length month ≡ 64 → Kept (with_month b month)
+  month_kept month long = record {
     sized = l.sized;
-    shaped = (reports, claimed, l.shaped.2);
+    shaped = (long, l.shaped.1);
     wide = l.wide;
     lined = l.lined;
     booked = l.booked;
@@ -161,10 +160,10 @@ module _ (l : Ledger) where
   pub closed_kept : Kept (closed b)
   closed_kept =
       let m = month_of b.stage in
-      let inside : m - 1 < length b.lines = omega (arith, l.shaped.2, l.dated.0, l.dated.1) in
+      let inside : m - 1 < length b.lines = omega (arith, l.shaped.1, l.dated.0, l.dated.1) in
       record {
         sized = l.sized;
-        shaped = (refl, refl, length-set b.lines (m - 1) (month_lines b m) ∙ l.shaped.2);
+        shaped = (refl, length-set b.lines (m - 1) (month_lines b m) ∙ l.shaped.1);
         wide = l.wide;
         lined = booked_lined b (m - 1) (month_lines b m) inside (length-month_lines b m) l.lined;
         booked = booked_bounded b (m - 1) (month_lines b m) inside (lines_bounded m) l.booked;

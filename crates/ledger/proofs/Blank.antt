@@ -22,7 +22,7 @@ blank_kept c =
     let bounded : (m f : ℕ) → Bounded (get_or (get_or (replicate 12 (replicate 64 no_line)) m []) f no_line) = λ m f. subst Bounded (sym (empty_line 12 64 m f)) (lit≤ tt, lit≤ tt) in
     record {
       sized = (lit≤ tt, lit≤ tt);
-      shaped = (refl, refl, refl);
+      shaped = (refl, refl);
       wide = λ a lt. omega arith;
       lined = each;
       booked = bounded;

@@ -1,7 +1,8 @@
 -- A book with one part changed. Assumes nothing.
+use Rattle.std.specs.Prelude.{List}
 use Rattle.calendar.specs.declared.year.Calendar.{Calendar}
 use Rattle.ledger.specs.declared.state.Stage.{Stage}
-use Rattle.ledger.specs.declared.state.Month.{Month}
+use Rattle.ledger.specs.declared.state.Filed.{Filed}
 use Rattle.ledger.specs.declared.state.Book.{Book}
 use Rattle.ledger.specs.Form.{Register, Trade}
 
@@ -17,5 +18,5 @@ with_register b x = record { calendar = b.calendar; stage = b.stage; register = 
 abbrev pub with_trade : Book → Trade → Book
 with_trade b x = record { calendar = b.calendar; stage = b.stage; register = b.register; trade = x; month = b.month; lines = b.lines }
 
-abbrev pub with_month : Book → Month → Book
+abbrev pub with_month : Book → List Filed → Book
 with_month b x = record { calendar = b.calendar; stage = b.stage; register = b.register; trade = b.trade; month = x; lines = b.lines }

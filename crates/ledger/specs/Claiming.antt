@@ -1,18 +1,19 @@
 -- Claims, and dismissing them. Serves src/claiming.rt. Assumes nothing.
-use Rattle.std.specs.Prelude.{ℕ, ◌-◌, Bool, true, false, not, [], ◌∷◌, ◌++◌, length, slice_index_or, slice_set}
+use Rattle.std.specs.Prelude.{ℕ, ◌-◌, Bool, true, false, not, List, [], ◌∷◌, ◌++◌, length, slice_set}
 use Rattle.ledger.specs.declared.course.Call.TheVariants as call
 use Rattle.ledger.specs.declared.refusal.Refusal.TheVariants as refusal
 use Rattle.ledger.specs.declared.state.Claim.{Claim}
 use Rattle.ledger.specs.declared.state.Claim.TheVariants as claim
-use Rattle.ledger.specs.declared.state.Month.{Month}
+use Rattle.ledger.specs.declared.state.Filed.{Filed}
 use Rattle.ledger.specs.declared.state.Book.{Book}
 use Rattle.ledger.specs.Judged.{Rows, given_out}
 use Rattle.ledger.specs.Course.{course}
+use Rattle.ledger.specs.Form.{filed_at}
 use Rattle.ledger.specs.Changes.{with_month}
 
 -- the claim of the facility f in the month under way
 abbrev pub claim_of : Book → ℕ → Claim
-claim_of b f = slice_index_or b.month.claims (f - 1) claim.None
+claim_of b f = (filed_at b.month (f - 1)).claim
 
 -- a claim was made, answered or not
 abbrev pub was_made : Claim → Bool
@@ -27,8 +28,8 @@ is_open claim.Open = true
 is_open claim.Answered = false
 
 -- the month with another claim of the facility f
-abbrev pub put_claim : Month → ℕ → Claim → Month
-put_claim m f x = record { measured = m.measured; claims = slice_set m.claims (f - 1) x }
+abbrev pub put_claim : List Filed → ℕ → Claim → List Filed
+put_claim m f x = slice_set m (f - 1) (record { measured = (filed_at m (f - 1)).measured; claim = x })
 
 -- the book with another claim of the facility f
 abbrev pub with_claim : Book → ℕ → Claim → Book

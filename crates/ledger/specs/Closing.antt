@@ -4,7 +4,7 @@ use Rattle.std.specs.List.{list_any}
 use Rattle.sharing.specs.declared.rows.Row.{Row}
 use Rattle.ledger.specs.declared.course.Call.TheVariants as call
 use Rattle.ledger.specs.declared.refusal.Refusal.TheVariants as refusal
-use Rattle.ledger.specs.declared.state.Claim.{Claim}
+use Rattle.ledger.specs.declared.state.Filed.{Filed}
 use Rattle.ledger.specs.declared.state.Line.{Line}
 use Rattle.ledger.specs.declared.state.Stage.{Stage}
 use Rattle.ledger.specs.declared.state.Book.{Book}
@@ -17,15 +17,15 @@ use Rattle.ledger.specs.Booking.{month_lines}
 use Rattle.ledger.specs.Settling.{limit_rows}
 
 -- whether some claim waits for an answer
-abbrev pub some_open : List Claim → Bool
-some_open xs = list_any is_open xs
+abbrev pub some_open : List Filed → Bool
+some_open month = list_any (λ x. is_open x.claim) month
 
 -- the refusals before those of the rows: of the stage, and of a claim that is still open
 abbrev pub unsettled_rows : Book → Rows
-unsettled_rows b = course call.Close b.stage ++ (some_open b.month.claims, refusal.ClaimOpen) ∷ []
+unsettled_rows b = course call.Close b.stage ++ (some_open b.month, refusal.ClaimOpen) ∷ []
 
 abbrev pub close_rows : Book → List Row → Rows
-close_rows b rows = course call.Close b.stage ++ (some_open b.month.claims, refusal.ClaimOpen) ∷ limit_rows rows
+close_rows b rows = course call.Close b.stage ++ (some_open b.month, refusal.ClaimOpen) ∷ limit_rows rows
 
 -- the book with these lines for the month under way, whose reports and claims end, at the next stage
 abbrev pub booked_month : Book → List Line → Stage → Book

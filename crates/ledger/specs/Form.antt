@@ -1,11 +1,13 @@
 -- What every ledger keeps of its book, a name for each fact, and how a book is read at a place. Places count from 0:
 -- facility 1 stands at place 0. Serves the whole crate. Assumes nothing.
-use Rattle.std.specs.Prelude.{◌≡◌, ℕ, ◌<◌, ◌≤◌, false, List, [], length, sum_by, sum, slice_index, slice_index_or}
+use Rattle.std.specs.Prelude.{◌≡◌, ℕ, ◌<◌, ◌≤◌, false, List, [], length, sum_by, sum, None, slice_index, slice_index_or}
 use Rattle.arrayvec.specs.ArrayVec.{ArrayVec}
 use Rattle.ledger.specs.declared.state.Stage.{Stage}
 use Rattle.ledger.specs.declared.state.Stage.TheVariants.{Unopened, Month, Finished}
 use Rattle.ledger.specs.declared.state.Facility.{Facility}
 use Rattle.ledger.specs.declared.state.Award.{Award}
+use Rattle.ledger.specs.declared.state.Claim.TheVariants as claim
+use Rattle.ledger.specs.declared.state.Filed.{Filed}
 use Rattle.ledger.specs.declared.state.Line.{Line}
 use Rattle.ledger.specs.declared.state.Book.{Book}
 
@@ -24,11 +26,19 @@ no_facility = record { letter = 0; firm = 0; on = false }
 abbrev pub no_award : Award
 no_award = record { kw = 0; price = 0; held = [] }
 
+-- what came in of a facility of which nothing did
+abbrev pub nothing_filed : Filed
+nothing_filed = record { measured = None; claim = claim.None }
+
 abbrev pub facility_at : Register → ℕ → Facility
 facility_at r f = slice_index_or r.items f no_facility
 
 abbrev pub award_at : Trade → ℕ → Award
 award_at t i = slice_index_or t.items i no_award
+
+-- what came in of the facility at place f
+abbrev pub filed_at : List Filed → ℕ → Filed
+filed_at month f = slice_index_or month f nothing_filed
 
 -- the kW that each facility holds under an award
 abbrev pub holdings : Award → List ℕ
@@ -62,7 +72,7 @@ Sized b = (length b.register.items ≤ 64) × (length b.trade.items ≤ 32)
 
 -- the arrays have their lengths
 abbrev pub Shaped : Book → Type 0
-Shaped b = (length b.month.measured ≡ 64) × (length b.month.claims ≡ 64) × (length b.lines ≡ 12)
+Shaped b = (length b.month ≡ 64) × (length b.lines ≡ 12)
 
 -- each month has a line for each facility
 abbrev pub Lined : Book → Type 0

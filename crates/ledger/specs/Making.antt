@@ -1,15 +1,15 @@
 -- A ledger as it is made. Serves src/making.rt. Assumes nothing.
-use Rattle.std.specs.Prelude.{[], replicate, None}
+use Rattle.std.specs.Prelude.{List, [], replicate}
 use Rattle.calendar.specs.declared.year.Calendar.{Calendar}
 use Rattle.ledger.specs.declared.state.Stage.TheVariants.{Unopened}
-use Rattle.ledger.specs.declared.state.Claim.TheVariants as claim
-use Rattle.ledger.specs.declared.state.Month.{Month}
+use Rattle.ledger.specs.declared.state.Filed.{Filed}
 use Rattle.ledger.specs.declared.state.Line.{Line}
 use Rattle.ledger.specs.declared.state.Book.{Book}
+use Rattle.ledger.specs.Form.{nothing_filed}
 
 -- a month for which nothing has come in
-abbrev pub new_month : Month
-new_month = record { measured = replicate 64 None; claims = replicate 64 claim.None }
+abbrev pub new_month : List Filed
+new_month = replicate 64 nothing_filed
 
 -- a line on which nothing is booked
 abbrev pub no_line : Line

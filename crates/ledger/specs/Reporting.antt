@@ -8,11 +8,11 @@ use Rattle.ledger.specs.declared.course.Call.{Call}
 use Rattle.ledger.specs.declared.refusal.Refusal.TheVariants as refusal
 use Rattle.ledger.specs.declared.fault.LedgerFault.{LedgerFault}
 use Rattle.ledger.specs.declared.fault.LedgerFault.TheVariants as fault
-use Rattle.ledger.specs.declared.state.Month.{Month}
+use Rattle.ledger.specs.declared.state.Filed.{Filed}
 use Rattle.ledger.specs.declared.state.Book.{Book}
 use Rattle.ledger.specs.Judged.{Rows, given_out}
 use Rattle.ledger.specs.Course.{course}
-use Rattle.ledger.specs.Form.{Register, facility_at, held_in_all, month_of}
+use Rattle.ledger.specs.Form.{Register, facility_at, filed_at, held_in_all, month_of}
 use Rattle.ledger.specs.Changes.{with_month}
 
 -- the facility f was given out, and has this letter
@@ -35,8 +35,8 @@ taken (Ok m) = Ok tt
 taken (Err e) = Err (fault.Metering e)
 
 -- the month with what the report of the facility f came to, in place of any that it has
-abbrev pub put_report : Month → ℕ → Measured → Month
-put_report m f x = record { measured = slice_set m.measured (f - 1) (Some x); claims = m.claims }
+abbrev pub put_report : List Filed → ℕ → Measured → List Filed
+put_report m f x = slice_set m (f - 1) (record { measured = Some x; claim = (filed_at m (f - 1)).claim })
 
 -- the book with what the facility's report came to
 abbrev pub with_measured : Book → ℕ → Result Measured MeteringFault → Book

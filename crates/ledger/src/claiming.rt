@@ -1,14 +1,14 @@
 //! Claims of a month, and dismissing them.
 ghost use Rattle.std.specs.Prelude.{◌≡◌, ◌∷◌, Ok};
 ghost use Rattle.ledger.specs.Judged.{judged, ruled, kept_or};
-ghost use Rattle.ledger.specs.Claiming.{claim_of, put_claim, claim_rows, claimed, unclaimed_rows, answer_rows, dismiss_rows, dismissed};
+ghost use Rattle.ledger.specs.Claiming.{claim_of, claim_rows, claimed, unclaimed_rows, answer_rows, dismiss_rows, dismissed};
 ghost use Rattle.ledger.specs.Entries.{Journal, claiming, dismissing};
 ghost use Rattle.ledger.specs.Runs.{Recorded};
 
 use crate::course::Call;
 use crate::kept::Ledger;
 use crate::numbers::FacilityNumber;
-use crate::state::{Claim, Month};
+use crate::state::Claim;
 use crate::{LedgerFault, Refusal};
 
 impl Ledger {
@@ -21,7 +21,7 @@ impl Ledger {
     {
         let facility = self.admitted(Call::Claim, facility)?;
         claimable(self.claim_of(facility))?;
-        self.book.month.put_claim(facility, Claim::Open);
+        self.book.month[facility.place()].claim = Claim::Open;
         Ok(())
     }
 
@@ -34,7 +34,7 @@ impl Ledger {
     {
         let facility = self.admitted(Call::Answer, facility)?;
         answerable(self.claim_of(facility))?;
-        self.book.month.put_claim(facility, Claim::Answered);
+        self.book.month[facility.place()].claim = Claim::Answered;
         Ok(())
     }
 
@@ -42,16 +42,7 @@ impl Ledger {
     pub(crate) fn claim_of(&self, facility: FacilityNumber) -> Claim
         ensures { result ≡ claim_of self.now.book facility.number }
     {
-        self.book.month.claims[facility.place()]
-    }
-}
-
-impl Month {
-    /// Puts the facility's claim; all others stay.
-    pub(crate) fn put_claim(&mut self, facility: FacilityNumber, claim: Claim)
-        ensures { self.new ≡ put_claim self.old facility.number claim }
-    {
-        self.claims[facility.place()] = claim;
+        self.book.month[facility.place()].claim
     }
 }
 

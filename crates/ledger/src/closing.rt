@@ -6,7 +6,7 @@ ghost use Rattle.ledger.specs.Course.{moved};
 ghost use Rattle.ledger.specs.declared.course.Call.TheVariants as made;
 ghost use Rattle.ledger.specs.Settling.{total_now, shared};
 ghost use Rattle.ledger.specs.Form.{Dated, month_of};
-ghost use Rattle.ledger.specs.Closing.{unsettled_rows, close_rows, booked_month, closed};
+ghost use Rattle.ledger.specs.Closing.{some_open, unsettled_rows, close_rows, booked_month, closed};
 ghost use Rattle.ledger.specs.Entries.{Journal, closing};
 ghost use Rattle.ledger.specs.Runs.{Recorded};
 
@@ -39,10 +39,20 @@ impl Ledger {
         ensures { result ≡ judged (unsettled_rows self.now.book) (moved made.Close self.now.book.stage) }
     {
         let stage = turn(self.book.stage, Call::Close)?;
-        if self.book.month.claims.contains(&Claim::Open) {
+        if self.some_open() {
             return Err(Refusal::ClaimOpen);
         }
         Ok(stage)
+    }
+
+    /// Whether some claim waits for an answer.
+    fn some_open(&self) -> bool
+        ensures { result ≡ some_open self.now.book.month }
+    {
+        self.book
+            .month
+            .iter()
+            .any(|filed| filed.claim == Claim::Open)
     }
 }
 

@@ -7,15 +7,15 @@ ghost use Rattle.ledger.specs.Runs.{Recorded};
 
 use crate::kept::Ledger;
 use crate::state::{
-    Book, Claim, Line, Lines, MONTHS, MOST_FACILITIES, Month, Register, Stage, Trade,
+    Book, Claim, Filed, Line, Lines, MONTHS, MOST_FACILITIES, Month, Register, Stage, Trade,
 };
 use calendar::Calendar;
 
 /// A month for which nothing has come in.
-pub(crate) const NEW_MONTH: Month = Month {
-    measured: [None; MOST_FACILITIES],
-    claims: [Claim::None; MOST_FACILITIES],
-};
+pub(crate) const NEW_MONTH: Month = [Filed {
+    measured: None,
+    claim: Claim::None,
+}; MOST_FACILITIES];
 
 impl Ledger {
     /// A ledger that is not opened yet.

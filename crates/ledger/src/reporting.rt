@@ -1,7 +1,7 @@
 //! Taking a facility's report of the month.
 ghost use Rattle.std.specs.Prelude.{◌≡◌, ◌∷◌};
 ghost use Rattle.ledger.specs.Judged.{judged, plainly, ruled, kept_or};
-ghost use Rattle.ledger.specs.Reporting.{letter_rows, measured_for, taken, with_measured, put_report};
+ghost use Rattle.ledger.specs.Reporting.{letter_rows, measured_for, taken, with_measured};
 ghost use Rattle.ledger.specs.declared.course.Call.TheVariants as made;
 ghost use Rattle.ledger.specs.Entries.{Journal, reporting, meant};
 ghost use Rattle.ledger.specs.Runs.{Recorded};
@@ -9,7 +9,6 @@ ghost use Rattle.ledger.specs.Runs.{Recorded};
 use crate::course::Call;
 use crate::kept::Ledger;
 use crate::numbers::FacilityNumber;
-use crate::state::Month;
 use crate::{LedgerFault, Refusal};
 use metering::{Kind, Measured, MeteringFault, Report, measure};
 
@@ -22,7 +21,7 @@ impl Ledger {
     {
         let facility = self.may_report(Call::Report, facility, K::LETTER)?;
         let measured = self.measured(facility, report)?;
-        self.book.month.put_report(facility, measured);
+        self.book.month[facility.place()].measured = Some(measured);
         Ok(())
     }
 
@@ -53,14 +52,5 @@ impl Ledger {
         let commitment = self.commitment(facility);
         let month = self.book.stage.month();
         measure::<K>(&self.book.calendar, month, commitment, report)
-    }
-}
-
-impl Month {
-    /// Puts what the facility's report came to, in place of any that it has; all others stay.
-    pub(crate) fn put_report(&mut self, facility: FacilityNumber, measured: Measured)
-        ensures { self.new ≡ put_report self.old facility.number measured }
-    {
-        self.measured[facility.place()] = Some(measured);
     }
 }

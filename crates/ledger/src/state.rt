@@ -57,12 +57,15 @@ pub enum Claim {
     Answered,
 }
 
-/// What came in for the month under way: each facility's measured report, if it has one, and its claim.
+/// What came in of a facility in the month under way: its measured report, if it has one, and its claim.
 #[derive(Clone, Copy)]
-pub struct Month {
-    pub measured: [Option<Measured>; MOST_FACILITIES],
-    pub claims: [Claim; MOST_FACILITIES],
+pub struct Filed {
+    pub measured: Option<Measured>,
+    pub claim: Claim,
 }
+
+/// What came in for the month under way, of each facility.
+pub type Month = [Filed; MOST_FACILITIES];
 
 /// What is booked for a facility in a closed month, in cents.
 #[derive(Clone, Copy, PartialEq, Eq, Debug, Default)]

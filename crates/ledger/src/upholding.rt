@@ -1,9 +1,8 @@
 //! Upholding a claim with a new report.
 ghost use Rattle.std.specs.Prelude.{◌≡◌, ◌∷◌};
 ghost use Rattle.ledger.specs.Judged.{ruled, kept_or};
-ghost use Rattle.ledger.specs.declared.state.Claim.TheVariants as claim;
-ghost use Rattle.ledger.specs.Claiming.{claim_of, put_claim};
-ghost use Rattle.ledger.specs.Reporting.{letter_rows, measured_for, put_report};
+ghost use Rattle.ledger.specs.Claiming.{claim_of};
+ghost use Rattle.ledger.specs.Reporting.{letter_rows, measured_for};
 ghost use Rattle.ledger.specs.Upholding.{upheld_by, upheld};
 ghost use Rattle.ledger.specs.declared.course.Call.TheVariants as made;
 ghost use Rattle.ledger.specs.Entries.{Journal, upholding, meant};
@@ -13,9 +12,8 @@ use crate::LedgerFault;
 use crate::claiming::answerable;
 use crate::course::Call;
 use crate::kept::Ledger;
-use crate::numbers::FacilityNumber;
-use crate::state::{Claim, Month};
-use metering::{Kind, Measured, Report};
+use crate::state::Claim;
+use metering::{Kind, Report};
 
 impl Ledger {
     /// Answers the facility's claim, and takes the report in place of the one that it has.
@@ -27,17 +25,9 @@ impl Ledger {
         let facility = self.may_report(Call::Answer, facility, K::LETTER)?;
         let measured = self.measured(facility, report)?;
         answerable(self.claim_of(facility))?;
-        self.book.month.answer_by(facility, measured);
+        let place = facility.place();
+        self.book.month[place].measured = Some(measured);
+        self.book.month[place].claim = Claim::Answered;
         Ok(())
-    }
-}
-
-impl Month {
-    /// Puts what the facility's new report came to, and answers its claim.
-    fn answer_by(&mut self, facility: FacilityNumber, measured: Measured)
-        ensures { self.new ≡ put_claim (put_report self.old facility.number measured) facility.number claim.Answered }
-    {
-        self.put_report(facility, measured);
-        self.put_claim(facility, Claim::Answered);
     }
 }

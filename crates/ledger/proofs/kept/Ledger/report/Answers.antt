@@ -27,5 +27,5 @@ returns g c =
     let m : ℕ → Result Measured MeteringFault = λ n. measured_for kind.SHORTEST kind.LONGEST kind.credit b n report.hours.now report.test in
     let n = c.in_ok-facility.facility.number in
     let own = accepted_value (letter_rows call.Report b f c.LETTER.result) f n c.in_ok-facility.ensures in
-    let after = is_put b f n m c.in_ok-measured.measured own c.in_ok-measured.ensures c.put_report.new.self c.put_report.ensures in
+    let after = is_put b f n m c.in_ok-measured.measured own c.in_ok-measured.ensures _ (search rules) in
     record { answer = search rules; after = after; recorded = λ j h. noted j _ c.args.self.now _ h (reporting_meant kind.LETTER kind.SHORTEST kind.LONGEST kind.credit b f report.hours.now report.test _ _ (search rules) after) }

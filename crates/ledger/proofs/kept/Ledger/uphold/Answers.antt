@@ -36,5 +36,5 @@ returns g c =
     let m : ℕ → Result Measured MeteringFault = λ n. measured_for kind.SHORTEST kind.LONGEST kind.credit b n report.hours.now report.test in
     let n = c.in_ok-facility.facility.number in
     let own = accepted_value (letter_rows call.Answer b f c.LETTER.result) f n c.in_ok-facility.ensures in
-    let after = is_answered b f n m c.in_ok-measured.measured own c.in_ok-measured.ensures c.answer_by.new.self c.answer_by.ensures in
+    let after = is_answered b f n m c.in_ok-measured.measured own c.in_ok-measured.ensures _ (search rules) in
     record { answer = search rules; after = after; recorded = λ j h. noted j _ c.args.self.now _ h (upholding_meant kind.LETTER kind.SHORTEST kind.LONGEST kind.credit b f report.hours.now report.test _ _ (search rules) after) }
