@@ -2,7 +2,6 @@
 ghost use Rattle.std.specs.Prelude.{◌≡◌, ◌∷◌};
 ghost use Rattle.sharing.specs.Rows.{mwhs, charged};
 ghost use Rattle.ledger.specs.Judged.{ruled, kept_or};
-ghost use Rattle.ledger.specs.Changes.{with_stage};
 ghost use Rattle.ledger.specs.Settling.{total_now, shared};
 ghost use Rattle.ledger.specs.Advancing.{advance_rows, advanced};
 ghost use Rattle.ledger.specs.Entries.{Journal, advancing};
@@ -12,7 +11,6 @@ use crate::LedgerFault;
 use crate::course::{Call, turn};
 use crate::kept::Ledger;
 use crate::settling::share_within;
-use crate::state::{Book, Stage};
 use sharing::{Row, SharingRule};
 
 impl Ledger {
@@ -32,16 +30,7 @@ impl Ledger {
         let stage = turn(self.book.stage, Call::Advance)?;
         let (_, total) = self.settle();
         let total = share_within(rule, total, rows)?;
-        self.book.move_on(stage);
+        self.book.stage = stage;
         Ok(total)
-    }
-}
-
-impl Book {
-    /// Moves on to the stage, and books nothing.
-    fn move_on(&mut self, stage: Stage)
-        ensures { self.new ≡ with_stage self.old stage }
-    {
-        self.stage = stage;
     }
 }
