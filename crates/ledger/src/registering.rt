@@ -26,6 +26,18 @@ pub struct Module {
     pub coefficient: u32,
 }
 
+impl Module {
+    /// A module of these kW, with this coefficient.
+    pub fn new(installed: u32, coefficient: u32) -> Module
+        ensures { result ≡ record { installed = installed; coefficient = coefficient } }
+    {
+        Module {
+            installed,
+            coefficient,
+        }
+    }
+}
+
 impl Ledger {
     /// Registers a facility, switched off, and answers its number.
     #[tactic(auto, using(crate::specs::Runs::noted))]
