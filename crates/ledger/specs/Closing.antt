@@ -1,5 +1,5 @@
 -- Closing a month: its refusals, and what it books. Serves src/closing.rt. Assumes nothing.
-use Rattle.std.specs.Prelude.{◌-◌, Bool, List, [], ◌∷◌, ◌++◌, slice_set}
+use Rattle.std.specs.Prelude.{ℕ, ◌-◌, Bool, List, [], ◌∷◌, ◌++◌, slice_set}
 use Rattle.std.specs.List.{list_any}
 use Rattle.sharing.specs.declared.rows.Row.{Row}
 use Rattle.ledger.specs.declared.course.Call.TheVariants as call
@@ -27,17 +27,17 @@ unsettled_rows b = course call.Close b.stage ++ (some_open b.month, refusal.Clai
 abbrev pub close_rows : Book → List Row → Rows
 close_rows b rows = course call.Close b.stage ++ (some_open b.month, refusal.ClaimOpen) ∷ limit_rows rows
 
--- the book with these lines for the month under way, whose reports and claims end, at the next stage
-abbrev pub booked_month : Book → List Line → Stage → Book
-booked_month b ls s = record {
+-- the book with these lines for the month m, where the reports and claims end, at the stage s
+abbrev pub booked_month : Book → ℕ → List Line → Stage → Book
+booked_month b m ls s = record {
   calendar = b.calendar;
   stage = s;
   register = b.register;
   trade = b.trade;
   month = new_month;
-  lines = slice_set b.lines (month_of b.stage - 1) ls;
+  lines = slice_set b.lines (m - 1) ls;
 }
 
 -- the month's lines are booked, its reports and claims end, and the next stage begins
 abbrev pub closed : Book → Book
-closed b = booked_month b (month_lines b (month_of b.stage)) (moved call.Close b.stage)
+closed b = booked_month b (month_of b.stage) (month_lines b (month_of b.stage)) (moved call.Close b.stage)

@@ -5,7 +5,6 @@ ghost use Rattle.ledger.specs.Judged.{judged, ruled, kept_or};
 ghost use Rattle.ledger.specs.Course.{moved};
 ghost use Rattle.ledger.specs.declared.course.Call.TheVariants as made;
 ghost use Rattle.ledger.specs.Settling.{total_now, shared};
-ghost use Rattle.ledger.specs.Form.{Dated, month_of};
 ghost use Rattle.ledger.specs.Closing.{some_open, unsettled_rows, close_rows, booked_month, closed};
 ghost use Rattle.ledger.specs.Entries.{Journal, closing};
 ghost use Rattle.ledger.specs.Runs.{Recorded};
@@ -13,6 +12,7 @@ ghost use Rattle.ledger.specs.Runs.{Recorded};
 use crate::course::{Call, turn};
 use crate::kept::Ledger;
 use crate::making::NEW_MONTH;
+use crate::numbers::MonthNumber;
 use crate::settling::share_within;
 use crate::state::{Book, Claim, Line, MOST_FACILITIES, Stage};
 use crate::{LedgerFault, Refusal};
@@ -30,7 +30,8 @@ impl Ledger {
         let stage = self.may_close()?;
         let (lines, total) = self.settle();
         let total = share_within(rule, total, rows)?;
-        self.book.book_month(lines, stage);
+        let month = self.month_under_way();
+        self.book.book_month(month, lines, stage);
         Ok(total)
     }
 
@@ -57,13 +58,11 @@ impl Ledger {
 }
 
 impl Book {
-    /// Books the lines of the month under way, ends its reports and claims, and moves on to the stage.
-    fn book_month(&mut self, lines: [Line; MOST_FACILITIES], stage: Stage)
-        requires { Dated (month_of self.old.stage) }
-        ensures { self.new ≡ booked_month self.old lines stage }
+    /// Books the lines of the month, ends the reports and claims, and moves on to the stage.
+    fn book_month(&mut self, month: MonthNumber, lines: [Line; MOST_FACILITIES], stage: Stage)
+        ensures { self.new ≡ booked_month self.old month.number lines stage }
     {
-        let place = self.stage.month() as usize - 1;
-        self.lines.months[place] = lines;
+        self.lines.months[month.place()] = lines;
         self.month = NEW_MONTH;
         self.stage = stage;
     }

@@ -47,7 +47,7 @@ impl<const MOST: usize> Number<MOST> {
 
 impl Ledger {
     ghost use Rattle.ledger.specs.Judged.{judged, plainly};
-    ghost use Rattle.ledger.specs.Form.{facility_at};
+    ghost use Rattle.ledger.specs.Form.{facility_at, month_of};
     ghost use Rattle.ledger.specs.Numbers.{facility_given, award_given, month_closed, admission};
 
     /// The facility of this number, if it was given out, for a call that belongs to the stage.
@@ -78,6 +78,15 @@ impl Ledger {
         ensures { plainly (λ n. n.number) result ≡ judged (award_given self.now.book award) award }
     {
         Number::given(award, self.book.trade.len()).ok_or(Refusal::NoAward)
+    }
+
+    /// The month under way; month 1 before the year, and month 12 after it.
+    pub(crate) fn month_under_way(&self) -> MonthNumber
+        ensures { result.number ≡ month_of self.now.book.stage }
+    {
+        Number {
+            number: self.book.stage.month(),
+        }
     }
 
     /// The month of this number, if it is closed.

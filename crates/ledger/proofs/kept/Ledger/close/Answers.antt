@@ -18,4 +18,4 @@ pub invariant_of-self : goal.invariant_of-self
 invariant_of-self g c =
     let s = c.args.self.now in
     let next = accepted_value (unsettled_rows s.book) (moved call.Close s.book.stage) c.in_ok-stage.stage c.in_ok-stage.ensures in
-    subst Kept (sym (c.book_month.ensures ∙ (λ i. booked_month s.book (c.settle-total.ensures.lines i) (next i)))) (closed_kept s)
+    subst Kept (sym (c.book_month.ensures ∙ (λ i. booked_month s.book (c.month_under_way-month.ensures i) (c.settle-total.ensures.lines i) (next i)))) (closed_kept s)
