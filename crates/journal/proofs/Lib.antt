@@ -14,6 +14,7 @@ pub mod Metering
 pub mod Closing
 pub mod Theorem
 pub mod LawHolds
+pub mod Counted
 pub mod Adding
 pub mod Totalling
 pub mod WorkedCalendar
