@@ -1,14 +1,14 @@
 //! Claims of a month, and dismissing them.
 ghost use Rattle.std.specs.Prelude.{◌≡◌, ◌∷◌, Ok};
 ghost use Rattle.ledger.specs.Judged.{judged, ruled, kept_or};
-ghost use Rattle.ledger.specs.Claiming.{claim_of, claim_rows, claimed, unclaimed_rows, answer_rows, dismiss_rows, dismissed};
+ghost use Rattle.ledger.specs.Claiming.{claim_of, with_claim, claim_rows, claimed, unclaimed_rows, answer_rows, dismiss_rows, dismissed};
 ghost use Rattle.ledger.specs.Entries.{Journal, claiming, dismissing};
 ghost use Rattle.ledger.specs.Runs.{Recorded};
 
 use crate::course::Call;
 use crate::kept::Ledger;
 use crate::numbers::FacilityNumber;
-use crate::state::Claim;
+use crate::state::{Book, Claim};
 use crate::{LedgerFault, Refusal};
 
 impl Ledger {
@@ -21,7 +21,7 @@ impl Ledger {
     {
         let facility = self.admitted(Call::Claim, facility)?;
         claimable(self.claim_of(facility))?;
-        self.book.month[facility.place()].claim = Claim::Open;
+        self.book.put_claim(facility, Claim::Open);
         Ok(())
     }
 
@@ -34,7 +34,7 @@ impl Ledger {
     {
         let facility = self.admitted(Call::Answer, facility)?;
         answerable(self.claim_of(facility))?;
-        self.book.month[facility.place()].claim = Claim::Answered;
+        self.book.put_claim(facility, Claim::Answered);
         Ok(())
     }
 
@@ -43,6 +43,15 @@ impl Ledger {
         ensures { result ≡ claim_of self.now.book facility.number }
     {
         self.book.month[facility.place()].claim
+    }
+}
+
+impl Book {
+    /// Puts the facility's claim; all else stays.
+    pub(crate) fn put_claim(&mut self, facility: FacilityNumber, claim: Claim)
+        ensures { self.new ≡ with_claim self.old facility.number claim }
+    {
+        self.month[facility.place()].claim = claim;
     }
 }
 

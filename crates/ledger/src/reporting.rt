@@ -1,5 +1,5 @@
 //! Taking a facility's report of the month.
-ghost use Rattle.std.specs.Prelude.{◌≡◌, ◌∷◌};
+ghost use Rattle.std.specs.Prelude.{◌≡◌, ◌∷◌, Ok};
 ghost use Rattle.ledger.specs.Judged.{judged, plainly, ruled, kept_or};
 ghost use Rattle.ledger.specs.Reporting.{letter_rows, measured_for, taken, with_measured};
 ghost use Rattle.ledger.specs.declared.course.Call.TheVariants as made;
@@ -9,6 +9,7 @@ ghost use Rattle.ledger.specs.Runs.{Recorded};
 use crate::course::Call;
 use crate::kept::Ledger;
 use crate::numbers::FacilityNumber;
+use crate::state::Book;
 use crate::{LedgerFault, Refusal};
 use metering::{Kind, Measured, MeteringFault, Report, measure};
 
@@ -21,7 +22,7 @@ impl Ledger {
     {
         let facility = self.may_report(Call::Report, facility, K::LETTER)?;
         let measured = self.measured(facility, report)?;
-        self.book.month[facility.place()].measured = Some(measured);
+        self.book.put_report(facility, measured);
         Ok(())
     }
 
@@ -52,5 +53,14 @@ impl Ledger {
         let commitment = self.commitment(facility);
         let month = self.book.stage.month();
         measure::<K>(&self.book.calendar, month, commitment, report)
+    }
+}
+
+impl Book {
+    /// Puts what the facility's report came to, in place of any that it has; all else stays.
+    pub(crate) fn put_report(&mut self, facility: FacilityNumber, measured: Measured)
+        ensures { self.new ≡ with_measured self.old facility.number (Ok measured) }
+    {
+        self.month[facility.place()].measured = Some(measured);
     }
 }

@@ -1,5 +1,5 @@
 //! Upholding a claim with a new report.
-ghost use Rattle.std.specs.Prelude.{◌≡◌, ◌∷◌};
+ghost use Rattle.std.specs.Prelude.{◌≡◌, ◌∷◌, Ok};
 ghost use Rattle.ledger.specs.Judged.{ruled, kept_or};
 ghost use Rattle.ledger.specs.Claiming.{claim_of};
 ghost use Rattle.ledger.specs.Reporting.{letter_rows, measured_for};
@@ -12,8 +12,9 @@ use crate::LedgerFault;
 use crate::claiming::answerable;
 use crate::course::Call;
 use crate::kept::Ledger;
-use crate::state::Claim;
-use metering::{Kind, Report};
+use crate::numbers::FacilityNumber;
+use crate::state::{Book, Claim};
+use metering::{Kind, Measured, Report};
 
 impl Ledger {
     /// Answers the facility's claim, and takes the report in place of the one that it has.
@@ -25,9 +26,17 @@ impl Ledger {
         let facility = self.may_report(Call::Answer, facility, K::LETTER)?;
         let measured = self.measured(facility, report)?;
         answerable(self.claim_of(facility))?;
-        let place = facility.place();
-        self.book.month[place].measured = Some(measured);
-        self.book.month[place].claim = Claim::Answered;
+        self.book.answer_by(facility, measured);
         Ok(())
+    }
+}
+
+impl Book {
+    /// Puts what the facility's new report came to, and answers its claim.
+    fn answer_by(&mut self, facility: FacilityNumber, measured: Measured)
+        ensures { self.new ≡ upheld self.old facility.number (Ok measured) }
+    {
+        self.put_report(facility, measured);
+        self.put_claim(facility, Claim::Answered);
     }
 }

@@ -1,12 +1,13 @@
-use Rattle.std.proofs.Common.{ℕ, Result, rules}
+use Rattle.std.proofs.Common.{ℕ, Result, ◌∙◌, rules}
 use Rattle.metering.specs.declared.measuring.Measured.{Measured}
 use Rattle.metering.specs.declared.fault.MeteringFault.{MeteringFault}
 use Rattle.ledger.specs.declared.course.Call.TheVariants as call
 use Rattle.ledger.specs.Reporting.{letter_rows, measured_for}
+use Rattle.ledger.specs.Upholding.{upheld}
 use Rattle.ledger.specs.Runs.{noted}
 use Rattle.ledger.proofs.JudgedRows.{accepted_value}
 use Rattle.ledger.proofs.Meaning.{upholding_meant}
-use Rattle.ledger.proofs.Reports.{is_answered}
+use Rattle.ledger.proofs.Reports.{by_its_report}
 use Rattle.ledger.proofs.kept.Ledger.uphold.Goals as goal
 
 pub returns-in_err-facility-clause-recorded : goal.returns-in_err-facility-clause-recorded
@@ -36,5 +37,5 @@ returns g c =
     let m : ℕ → Result Measured MeteringFault = λ n. measured_for kind.SHORTEST kind.LONGEST kind.credit b n report.hours.now report.test in
     let n = c.in_ok-facility.facility.number in
     let own = accepted_value (letter_rows call.Answer b f c.LETTER.result) f n c.in_ok-facility.ensures in
-    let after = is_answered b f n m c.in_ok-measured.measured own c.in_ok-measured.ensures _ (search rules) in
+    let after = c.answer_by.ensures ∙ by_its_report (upheld b) m f n c.in_ok-measured.measured own c.in_ok-measured.ensures in
     record { answer = search rules; after = after; recorded = λ j h. noted j _ c.args.self.now _ h (upholding_meant kind.LETTER kind.SHORTEST kind.LONGEST kind.credit b f report.hours.now report.test _ _ (search rules) after) }
