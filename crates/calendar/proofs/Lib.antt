@@ -1,3 +1,4 @@
+pub mod FromFn
 pub mod Keeping
 pub mod Spans
 pub mod Parts

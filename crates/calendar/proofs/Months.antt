@@ -16,11 +16,6 @@ year_days year right =
 pub year_most : (year : ℕ) → YearHours year → year ≤ 8784
 year_most year right = elim (cases_eq year 8760) [ inl common ↦ omega arith | inr other ↦ omega (arith, right other) ]
 
--- the first months have no more hours than the year
-pub first_months_within : (year n : ℕ) → YearHours year → first_months year n ≤ year
-unfolding first_months
-first_months_within year n right = omega (arith, sum_by-take-le (λ x. x) (days year) n, year_days year right)
-
 -- more months have no fewer hours
 pub first_months_rise : (year m n : ℕ) → m ≤ n → first_months year m ≤ first_months year n
 unfolding first_months

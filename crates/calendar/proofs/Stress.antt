@@ -1,4 +1,4 @@
--- The stress hours of a month: which hours they are, in which order, and at most how many. Assumes nothing.
+-- The stress hours of a month: which hours they are, in which order, and how many. Assumes nothing.
 use Rattle.std.proofs.Common.{◌≡◌, ℕ, ◌-◌, ◌<◌, ◌≤◌, true, length, sum_by, ap, ◌∙◌, arith}
 use Rattle.std.specs.List.{ContainsAt as Has, flat_map}
 use Rattle.calendar.specs.declared.year.Calendar.{Calendar}
@@ -46,7 +46,3 @@ module _ (c : Calendar) (m : ℕ) where
   -- how many they are
   pub length-stress_hours : length (stress_hours c m) ≡ sum_by (part_hours (month_begins c.year_hours m) (month_ends c.year_hours m)) (runs_of c)
   length-stress_hours = ap length stress_hours_parts ∙ length-parts (month_begins c.year_hours m) (month_ends c.year_hours m) (runs_of c)
-
-  -- a month has at most a tenth of the hours of the year
-  pub stress_hours_few : length (stress_hours c m) ≤ 878
-  stress_hours_few = omega (arith, length-stress_hours, parts_most c (month_begins c.year_hours m) (month_ends c.year_hours m))

@@ -9,4 +9,4 @@ mod year;
 
 pub use fault::CalendarFault;
 pub use run::Run;
-pub use year::{COMMON_YEAR, Calendar, LEAP_YEAR, MOST_RUNS, StressHours};
+pub use year::{COMMON_YEAR, Calendar, LEAP_YEAR, MONTHS, MOST_RUNS, StressHours};

@@ -12,6 +12,8 @@ mod walk;
 
 pub use walk::StressHours;
 
+/// The months of a year.
+pub const MONTHS: usize = 12;
 /// The hours of a common year.
 pub const COMMON_YEAR: u32 = 8_760;
 /// The hours of a leap year.

@@ -1,2 +1,2 @@
-pub mod Credits
+pub mod Walking
 pub mod CountedHours

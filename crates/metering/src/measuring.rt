@@ -1,5 +1,5 @@
 //! What a report comes to: counted hours and credited energy.
-ghost use Rattle.std.specs.Prelude.{◌≡◌, ◌+◌, ◌*◌, ◌<◌, ◌≤◌, true, false, length, MatchOption, option_map, slice_get};
+ghost use Rattle.std.specs.Prelude.{◌≡◌, ◌+◌, ◌*◌, ◌≤◌, length};
 ghost use Rattle.calendar.specs.Stress.{stress_hours};
 ghost use Rattle.metering.specs.Testing.{failed_in};
 ghost use Rattle.metering.specs.Measuring.{credited_energy, failed_outside, counting_with, measuring};
@@ -70,26 +70,12 @@ impl<K: Kind> Report<'_, '_, K> {
         requires few { length self.now.hours.now ≤ 8784 }
         ensures { result ≡ credited_energy K.credit commitment (failed_in self.now.test) (stress_hours calendar.now month) self.now.hours.now }
     {
-        let mut sum = 0;
-        for (i, hour) in calendar.stress_hours(month).enumerate() {
-            let Some(kw) = self.hour_credit(hour, i, commitment) else {
-                continue;
-            };
-            sum += u64::from(kw);
-        }
-        sum
-    }
-
-    /// The credit of an hour by the record at an index; none where the hour failed in the test.
-    fn hour_credit(&self, hour: u32, i: usize, commitment: u32) -> Option<u32>
-        requires { i < length self.now.hours.now }
-        ensures { MatchOption result (failed_in self.now.test hour ≡ true)
-            (λ kw. (failed_in self.now.test hour ≡ false) × (option_map (λ h. K.credit h commitment) (slice_get self.now.hours.now i) ≡ Some kw)) }
-    {
-        if self.failed_in(hour) {
-            return None;
-        }
-        Some(K::credit(&self.hours[i], commitment))
+        calendar
+            .stress_hours(month)
+            .zip(self.hours)
+            .filter(|(hour, _)| !self.failed_in(*hour))
+            .map(|(_, record)| u64::from(K::credit(record, commitment)))
+            .sum()
     }
 
     /// Whether this hour of the year is a failed hour of the test, if there is one.

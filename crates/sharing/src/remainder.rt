@@ -9,6 +9,7 @@ ghost use Rattle.sharing.specs.Cut.{count_above};
 ghost use Rattle.sharing.specs.RemainderLaws.{remainder_lawful};
 
 use crate::cut::{Cut, LeftOver};
+use crate::split::whole_cents;
 use crate::weighed::Weighed;
 use crate::{MOST_ROWS, Row, SharingFault, SharingRule};
 use arrayvec::ArrayVec;
@@ -67,14 +68,10 @@ impl Weighed {
         ensures charges { row.new ≡ with_charge row.old (cents_of self.total self.whole row.old.mwh) }
         ensures rest { result ≡ remainder_of self.total self.whole row.old.mwh }
     {
-        // Without MWh there is nothing to share.
-        if self.whole == 0 {
-            row.charge = 0;
-            return 0;
-        }
-        let product = self.total * u64::from(row.mwh);
-        row.charge = product / self.whole;
-        (product % self.whole) as u32
+        let mwh = u64::from(row.mwh);
+        row.charge = whole_cents(self.total, self.whole, mwh);
+        let left = (self.total * mwh).checked_rem(self.whole);
+        left.unwrap_or(0) as u32
     }
 }
 

@@ -1,5 +1,5 @@
 //! The year's calendar: filled, and printed month by month.
-use calendar::Calendar;
+use calendar::{Calendar, LEAP_YEAR, MONTHS};
 
 /// The first hours and the lengths of the year's runs of stress hours.
 const FIRSTS: [u16; 3] = [700, 1_500, 8_000];
@@ -10,9 +10,9 @@ const LENGTHS: [u16; 3] = [100, 340, 60];
 pub fn print_year(rt: &HostRuntime) -> anyhow::Result<()> {
     let mut calendar = Calendar::new();
     println!(rt; "A leap year with 500 stress hours")?;
-    fill_and_print(rt, &mut calendar, 8_784, &LENGTHS)?;
+    fill_and_print(rt, &mut calendar, LEAP_YEAR, &LENGTHS)?;
     println!(rt; "The same with runs that touch")?;
-    fill_and_print(rt, &mut calendar, 8_784, &[800, 340, 60])
+    fill_and_print(rt, &mut calendar, LEAP_YEAR, &[800, 340, 60])
 }
 
 /// Fills the calendar and prints its months, or prints why it is not filled.
@@ -30,7 +30,7 @@ fn fill_and_print(
         "{:>10} {:>10} {:>12}",
         "month", "from hour", "stress hours"
     )?;
-    for month in 1..=12 {
+    for month in 1..=MONTHS as u32 {
         let begins = calendar.month_begins(month);
         let stress = calendar.stress_hours_in(month);
         println!(rt; "{month:>10} {begins:>10} {stress:>12}")?;

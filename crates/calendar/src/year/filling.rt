@@ -1,5 +1,5 @@
 //! How a calendar is made, and how it is filled with another year.
-ghost use Rattle.std.specs.Prelude.{◌≡◌, ◌≤◌, length, take, MatchResult};
+ghost use Rattle.std.specs.Prelude.{◌≡◌, ◌≤◌, length, take, slice_index_or, MatchResult};
 ghost use Rattle.calendar.specs.Stress.{runs_of};
 ghost use Rattle.calendar.specs.Filling.{january, given_runs, RefusedFor, Accepted, Filled};
 
@@ -7,6 +7,7 @@ use super::form::{first_bad, right_share};
 use super::{COMMON_YEAR, Calendar, LEAP_YEAR, MOST_RUNS};
 use crate::fault::CalendarFault;
 use crate::run::Run;
+use std::array;
 
 /// The hours of January.
 const JANUARY: u16 = 744;
@@ -78,12 +79,15 @@ fn given_runs(firsts: &[u16], lengths: &[u16]) -> [Run; MOST_RUNS]
     requires even { length firsts.now ≡ length lengths.now }
     ensures { take (length firsts.now) result ≡ given_runs firsts.now lengths.now }
 {
-    let mut runs = [NO_RUN; MOST_RUNS];
-    for (k, first) in firsts.iter().enumerate() {
-        runs[k] = Run {
-            first: *first,
-            len: lengths[k],
-        };
-    }
-    runs
+    array::from_fn(|k| Run {
+        first: at_or_zero(firsts, k),
+        len: at_or_zero(lengths, k),
+    })
+}
+
+/// The number at a place of a list, and 0 behind it.
+fn at_or_zero(numbers: &[u16], k: usize) -> u16
+    ensures { result ≡ slice_index_or numbers.now k 0 }
+{
+    numbers.get(k).copied().unwrap_or(0)
 }

@@ -2,11 +2,9 @@
 ghost use Rattle.std.specs.Prelude.{◌≡◌, ◌*◌, ◌≤◌, sum};
 ghost use Rattle.calendar.specs.Months.{days, first_months, month_begins, month_ends};
 
-use super::{Calendar, LEAP_YEAR};
+use super::{Calendar, LEAP_YEAR, MONTHS};
 use std::ops::Range;
 
-/// The months of a year.
-const MONTHS_A_YEAR: usize = 12;
 /// The hours of a day, also where clocks elsewhere change: the calendar keeps winter time.
 const HOURS_A_DAY: u32 = 24;
 
@@ -43,12 +41,12 @@ impl Calendar {
         ensures bound { result ≤ self.now.year_hours }
     {
         let days = self.days();
-        let months = MONTHS_A_YEAR.min(months as usize);
+        let months = MONTHS.min(months as usize);
         hours_of(&days[..months])
     }
 
     /// The days of each month.
-    fn days(&self) -> [u32; MONTHS_A_YEAR]
+    fn days(&self) -> [u32; MONTHS]
         ensures { result ≡ days self.now.year_hours }
     {
         let february = if self.year_hours == LEAP_YEAR { 29 } else { 28 };
