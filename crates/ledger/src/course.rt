@@ -4,6 +4,7 @@ ghost use Rattle.ledger.specs.Judged.{judged};
 ghost use Rattle.ledger.specs.Course.{course, moved};
 ghost use Rattle.ledger.specs.Form.{month_of};
 
+use crate::state::LAST_MONTH;
 use crate::{Phase, Refusal, Stage};
 
 /// The calls of a ledger, as far as the course of a month tells them apart: dismissing and upholding both answer.
@@ -31,7 +32,7 @@ impl Stage {
         match self {
             Stage::Unopened => 1,
             Stage::Month(month, _) => month,
-            Stage::Finished => 12,
+            Stage::Finished => LAST_MONTH,
         }
     }
 }
@@ -53,7 +54,7 @@ pub(crate) fn turn(stage: Stage, call: Call) -> Result<Stage, Refusal>
         (Stage::Month(_, Phase::Metering), Call::Report) => Ok(stage),
         (Stage::Month(m, Phase::Metering), Call::Advance) => Ok(Stage::Month(m, Phase::Claims)),
         (Stage::Month(_, Phase::Claims), Call::Claim | Call::Answer) => Ok(stage),
-        (Stage::Month(12, Phase::Claims), Call::Close) => Ok(Stage::Finished),
+        (Stage::Month(LAST_MONTH, Phase::Claims), Call::Close) => Ok(Stage::Finished),
         (Stage::Month(m, Phase::Claims), Call::Close) => Ok(Stage::Month(
             m.saturating_add(1),
             Phase::Trading,

@@ -31,8 +31,9 @@ mod switching;
 mod upholding;
 mod worked;
 
+pub use calendar::MONTHS;
 pub use fault::{Layer, LedgerFault};
 pub use kept::Ledger;
 pub use refusal::Refusal;
 pub use registering::{MOST_MODULES, Module};
-pub use state::{Line, MONTHS, MOST_AWARDS, MOST_FACILITIES, Phase, Stage};
+pub use state::{Line, MOST_AWARDS, MOST_FACILITIES, Phase, Stage};

@@ -7,7 +7,7 @@ use crate::LedgerFault;
 use crate::course::Call;
 use crate::kept::Ledger;
 use crate::numbers::{FacilityNumber, MonthNumber};
-use crate::state::{Line, Stage};
+use crate::state::{LAST_MONTH, Line, Stage};
 
 impl Ledger {
     /// The facility's right and penalty in a closed month; two zeros where it was registered later.
@@ -36,7 +36,7 @@ impl Stage {
         match self {
             Stage::Unopened => 0,
             Stage::Month(month, _) => month.saturating_sub(1),
-            Stage::Finished => 12,
+            Stage::Finished => LAST_MONTH,
         }
     }
 }

@@ -7,9 +7,9 @@ ghost use Rattle.ledger.specs.Runs.{Recorded};
 
 use crate::kept::Ledger;
 use crate::state::{
-    Book, Claim, Filed, Line, Lines, MONTHS, MOST_FACILITIES, Month, Register, Stage, Trade,
+    Book, Claim, Filed, Line, Lines, MOST_FACILITIES, Month, Register, Stage, Trade,
 };
-use calendar::Calendar;
+use calendar::{Calendar, MONTHS};
 
 /// A month for which nothing has come in.
 pub(crate) const NEW_MONTH: Month = [Filed {

@@ -5,7 +5,8 @@ ghost use Rattle.std.specs.Option.{option_map};
 use crate::Refusal;
 use crate::course::{Call, turn};
 use crate::kept::Ledger;
-use crate::state::{Facility, MONTHS, MOST_AWARDS, MOST_FACILITIES};
+use crate::state::{Facility, MOST_AWARDS, MOST_FACILITIES};
+use calendar::MONTHS;
 
 /// A number from 1 to `MOST`.
 #[derive(Clone, Copy, PartialEq, Eq)]

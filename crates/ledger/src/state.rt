@@ -1,6 +1,6 @@
 //! What a ledger keeps, as plain data: the facts that every ledger keeps stand beside it, in `Ledger`.
 use arrayvec::ArrayVec;
-use calendar::Calendar;
+use calendar::{Calendar, MONTHS};
 use metering::Measured;
 use std::marker::Model;
 
@@ -8,8 +8,8 @@ use std::marker::Model;
 pub const MOST_FACILITIES: usize = 64;
 /// The most awards that a ledger takes.
 pub const MOST_AWARDS: usize = 32;
-/// The months of the year.
-pub const MONTHS: usize = 12;
+/// The year's last month.
+pub(crate) const LAST_MONTH: u32 = MONTHS as u32;
 
 /// The phase of a month.
 #[derive(Clone, Copy, PartialEq, Eq, Debug)]
