@@ -3,9 +3,10 @@ ghost use Rattle.std.specs.Prelude.{◌≡◌, ◌%◌, Some};
 ghost use Rattle.whole_year.specs.Rules.{rule_name};
 ghost use Rattle.whole_year.specs.declared.closing.Rule.TheVariants as rule;
 
-use crate::answers::{accepted, refused};
+use crate::answers::refused;
 use crate::buyers::{BUYERS, buyer, of_month};
-use ledger::{Ledger, Refusal};
+use crate::year::Year;
+use ledger::Refusal;
 use sharing::{Remainder, Row, Running, SharingFault};
 use std::fmt;
 
@@ -36,25 +37,46 @@ pub struct Closed {
     pub rows: [Row; BUYERS],
 }
 
-/// Advances a month, by the running rule, and prints its total so far.
-pub fn advance(rt: &HostRuntime, ledger: &mut Ledger, month: u32) -> anyhow::Result<()> {
-    let mut rows = of_month(month);
-    let total = accepted(rt, "the advance", ledger.advance(&Running, &mut rows))?;
-    println!(rt; "{:>10} {total:>12}", "advance")?;
-    Ok(())
-}
+impl Year<'_> {
+    /// Advances a month over its buyers, and prints its total so far.
+    pub fn advance_month(&mut self, month: u32) -> anyhow::Result<()> {
+        let total = self.advance(&mut of_month(month))?;
+        println!(self.rt; "{:>10} {total:>12}", "advance")?;
+        Ok(())
+    }
 
-/// Closes a month over its buyers.
-pub fn close(rt: &HostRuntime, ledger: &mut Ledger, month: u32) -> anyhow::Result<Closed> {
-    try_closing(rt, ledger, month)?;
-    let mut rows = of_month(month);
-    let rule = rule_of(month);
-    let answer = match rule {
-        Rule::Running => ledger.close(&Running, &mut rows),
-        Rule::Remainder => ledger.close(&Remainder, &mut rows),
-    };
-    let total = accepted(rt, "the closing", answer)?;
-    Ok(Closed { rule, total, rows })
+    /// Closes a month over its buyers.
+    pub fn close_month(&mut self, month: u32) -> anyhow::Result<Closed> {
+        self.try_closing(month)?;
+        let mut rows = of_month(month);
+        let rule = rule_of(month);
+        let total = match rule {
+            Rule::Running => self.close(&Running, &mut rows),
+            Rule::Remainder => self.close(&Remainder, &mut rows),
+        }?;
+        Ok(Closed { rule, total, rows })
+    }
+
+    /// Tries to close two of the months over rows that cannot be charged.
+    fn try_closing(&mut self, month: u32) -> anyhow::Result<()> {
+        let mut idle = [buyer(101, 0), buyer(102, 0)];
+        let mut huge = [buyer(101, 40_000_000), buyer(102, 1)];
+        match month {
+            2 => refused(
+                self.rt,
+                "closing over buyers that consumed nothing",
+                SharingFault::NoWeight.into(),
+                self.ledger.close(&Remainder, &mut idle),
+            ),
+            5 => refused(
+                self.rt,
+                "closing over too many MWh",
+                Refusal::RowsOutOfLimits.into(),
+                self.ledger.close(&Running, &mut huge),
+            ),
+            _ => Ok(()),
+        }
+    }
 }
 
 /// The rule that a month is closed by: the running one in odd months, the other in even ones.
@@ -66,26 +88,5 @@ fn rule_of(month: u32) -> Rule
         Rule::Remainder
     } else {
         Rule::Running
-    }
-}
-
-/// Tries to close two of the months over rows that cannot be charged.
-fn try_closing(rt: &HostRuntime, ledger: &mut Ledger, month: u32) -> anyhow::Result<()> {
-    let mut idle = [buyer(101, 0), buyer(102, 0)];
-    let mut huge = [buyer(101, 40_000_000), buyer(102, 1)];
-    match month {
-        2 => refused(
-            rt,
-            "closing over buyers that consumed nothing",
-            SharingFault::NoWeight.into(),
-            ledger.close(&Remainder, &mut idle),
-        ),
-        5 => refused(
-            rt,
-            "closing over too many MWh",
-            Refusal::RowsOutOfLimits.into(),
-            ledger.close(&Running, &mut huge),
-        ),
-        _ => Ok(()),
     }
 }

@@ -2,6 +2,7 @@
 ghost use Rattle.std.specs.Prelude.{◌≡◌};
 
 use crate::answers::{numbered, refused};
+use crate::year::Year;
 use ledger::{Ledger, LedgerFault, MOST_MODULES, Module, Refusal};
 use metering::{Demand, Kind, Storage, Thermal};
 
@@ -27,52 +28,44 @@ struct Entry {
     access: u32,
 }
 
-/// Registers the facilities that are there from the beginning, and one whose letter is none.
-pub fn register_first(rt: &HostRuntime, ledger: &mut Ledger) -> anyhow::Result<()> {
-    numbered(rt, "registering the plant", PLANT, enter(ledger, plant()))?;
-    numbered(rt, "registering the store", STORE, enter(ledger, store()))?;
-    let unlettered = Entry {
-        letter: b'd',
-        ..consumer()
-    };
-    refused(
-        rt,
-        "registering under a small letter",
-        Refusal::OutOfLimits.into(),
-        enter(ledger, unlettered),
-    )?;
-    numbered(
-        rt,
-        "registering the consumer",
-        CONSUMER,
-        enter(ledger, consumer()),
-    )?;
-    numbered(
-        rt,
-        "registering the late plant",
-        LATE_PLANT,
-        enter(ledger, late_plant()),
-    )
-}
+impl Year<'_> {
+    /// Registers a facility, which is to get this number.
+    fn register(&mut self, call: &str, number: u32, entry: Entry) -> anyhow::Result<()> {
+        numbered(self.rt, call, number, enter(&mut self.ledger, entry))
+    }
 
-/// Registers the store that comes later.
-pub fn register_new_store(rt: &HostRuntime, ledger: &mut Ledger) -> anyhow::Result<()> {
-    numbered(
-        rt,
-        "registering the new store",
-        NEW_STORE,
-        enter(ledger, new_store()),
-    )
-}
+    /// Registers the facilities that are there from the beginning, and one whose letter is none.
+    pub fn register_first(&mut self) -> anyhow::Result<()> {
+        self.register("registering the plant", PLANT, plant())?;
+        self.register("registering the store", STORE, store())?;
+        let unlettered = Entry {
+            letter: b'd',
+            ..consumer()
+        };
+        refused(
+            self.rt,
+            "registering under a small letter",
+            Refusal::OutOfLimits.into(),
+            enter(&mut self.ledger, unlettered),
+        )?;
+        self.register("registering the consumer", CONSUMER, consumer())?;
+        self.register("registering the late plant", LATE_PLANT, late_plant())
+    }
 
-/// Registers one more after the year.
-pub fn register_too_late(rt: &HostRuntime, ledger: &mut Ledger) -> anyhow::Result<()> {
-    refused(
-        rt,
-        "registering after the year",
-        Refusal::YearOver.into(),
-        enter(ledger, new_store()),
-    )
+    /// Registers the store that comes later.
+    pub fn register_new_store(&mut self) -> anyhow::Result<()> {
+        self.register("registering the new store", NEW_STORE, new_store())
+    }
+
+    /// Registers one more after the year.
+    pub fn register_too_late(&mut self) -> anyhow::Result<()> {
+        refused(
+            self.rt,
+            "registering after the year",
+            Refusal::YearOver.into(),
+            enter(&mut self.ledger, new_store()),
+        )
+    }
 }
 
 fn enter(ledger: &mut Ledger, entry: Entry) -> Result<u32, LedgerFault> {

@@ -1,7 +1,7 @@
 //! The stress hours of the year: its runs, the opening that takes them, and the months that they fall into.
 use crate::answers::{accepted, refused};
+use crate::year::Year;
 use calendar::{Calendar, CalendarFault, LEAP_YEAR};
-use ledger::Ledger;
 
 /// The months of a year.
 pub const MONTHS: u32 = 12;
@@ -14,15 +14,18 @@ const LENGTHS: [u16; RUNS] = [100, 60, 24, 48, 72, 36, 40, 30, 40];
 /// Lengths by which the first run ends where the second begins.
 const TOUCHING: [u16; RUNS] = [800, 60, 24, 48, 72, 36, 40, 30, 40];
 
-/// Opens the year, after an opening with runs that touch.
-pub fn open(rt: &HostRuntime, ledger: &mut Ledger) -> anyhow::Result<()> {
-    refused(
-        rt,
-        "opening with runs that touch",
-        CalendarFault::Run { place: 2 }.into(),
-        ledger.open(LEAP_YEAR, &FIRSTS, &TOUCHING),
-    )?;
-    accepted(rt, "opening", ledger.open(LEAP_YEAR, &FIRSTS, &LENGTHS))
+impl Year<'_> {
+    /// Opens the year, after an opening with runs that touch.
+    pub fn open(&mut self) -> anyhow::Result<()> {
+        refused(
+            self.rt,
+            "opening with runs that touch",
+            CalendarFault::Run { place: 2 }.into(),
+            self.ledger.open(LEAP_YEAR, &FIRSTS, &TOUCHING),
+        )?;
+        let answer = self.ledger.open(LEAP_YEAR, &FIRSTS, &LENGTHS);
+        accepted(self.rt, "opening", answer)
+    }
 }
 
 /// The calendar that the year is opened with.

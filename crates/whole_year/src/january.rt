@@ -4,12 +4,12 @@ ghost use Rattle.sharing.specs.Rows.{charges_in};
 
 use crate::answers::{accepted, numbered};
 use crate::buyers::buyer;
-use crate::print::{print_lines, print_rows};
+use crate::print::print_rows;
 use crate::records::{Hours, records};
-use crate::reports::hand_in;
+use crate::year::Year;
 use anyhow::anyhow;
 use calendar::COMMON_YEAR;
-use ledger::{Ledger, Line, MOST_MODULES, Module};
+use ledger::{Line, MOST_MODULES, Module};
 use metering::{Kind, Thermal, ThermalHour};
 use sharing::{Row, Running};
 
@@ -51,48 +51,40 @@ const CHARGE: u64 = 3_215_054;
 /// Keeps the January, prints it, and ends the program where a figure is another.
 pub fn check_january(rt: &HostRuntime) -> anyhow::Result<()> {
     println!(rt; "The worked January")?;
-    let mut ledger = Ledger::new();
-    begin(rt, &mut ledger)?;
-    report(rt, &mut ledger)?;
+    let mut year = Year::new(rt);
+    year.begin_january()?;
+    let hours = records(rt.alloc(), HOURS, POOR, STRESS as usize)?;
+    year.report::<Thermal>("the report", FACILITY, &hours, None)?;
     let mut rows = [buyer(1, 1), buyer(2, 1), buyer(3, 1)];
-    accepted(rt, "the advance", ledger.advance(&Running, &mut rows))?;
-    let total = accepted(rt, "the closing", ledger.close(&Running, &mut rows))?;
-    print_lines(rt, &ledger, 1)?;
+    year.advance(&mut rows)?;
+    let total = year.close(&Running, &mut rows)?;
+    year.print_lines(1)?;
     println!(rt; "{:>10} {total:>12}", "closed")?;
     print_rows(rt, &rows)?;
-    let line = accepted(rt, "the line of January", ledger.line(1, FACILITY))?;
+    let answer = year.ledger.line(1, FACILITY);
+    let line = accepted(rt, "the line of January", answer)?;
     if !as_worked(line, total, rows) {
         return Err(anyhow!("a figure of the worked January differs"));
     }
     Ok(())
 }
 
-/// From the opening to the cut-off.
-fn begin(rt: &HostRuntime, ledger: &mut Ledger) -> anyhow::Result<()> {
-    accepted(rt, "opening", ledger.open(COMMON_YEAR, &[0], &[STRESS]))?;
-    let modules = [Module {
-        installed: KW,
-        coefficient: 1_000,
-    }; MOST_MODULES];
-    numbered(
-        rt,
-        "registering",
-        FACILITY,
-        ledger.register(Thermal::LETTER, modules, 1, KW),
-    )?;
-    accepted(rt, "switching on", ledger.switch(FACILITY, true))?;
-    numbered(rt, "awarding", AWARD, ledger.award(FACILITY, KW, PRICE))?;
-    accepted(rt, "the cut-off", ledger.cut_off())
-}
-
-/// The facility's report.
-fn report(rt: &HostRuntime, ledger: &mut Ledger) -> anyhow::Result<()> {
-    let hours = records(rt.alloc(), HOURS, POOR, STRESS as usize)?;
-    accepted(
-        rt,
-        "the report",
-        hand_in::<Thermal>(ledger, FACILITY, &hours, None),
-    )
+impl Year<'_> {
+    /// From the opening to the cut-off.
+    fn begin_january(&mut self) -> anyhow::Result<()> {
+        let answer = self.ledger.open(COMMON_YEAR, &[0], &[STRESS]);
+        accepted(self.rt, "opening", answer)?;
+        let modules = [Module {
+            installed: KW,
+            coefficient: 1_000,
+        }; MOST_MODULES];
+        let answer = self.ledger.register(Thermal::LETTER, modules, 1, KW);
+        numbered(self.rt, "registering", FACILITY, answer)?;
+        self.switch("switching on", FACILITY, true)?;
+        let answer = self.ledger.award(FACILITY, KW, PRICE);
+        numbered(self.rt, "awarding", AWARD, answer)?;
+        self.cut_off()
+    }
 }
 
 /// Whether the figures are those that were worked out.

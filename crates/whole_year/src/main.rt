@@ -18,6 +18,7 @@ mod reports;
 mod rules;
 mod run;
 mod trading;
+mod year;
 
 fn main(rt: HostRuntime) -> anyhow::Result<()> {
     settle(&rt)

@@ -3,21 +3,36 @@ ghost use Rattle.std.specs.Prelude.{◌≡◌, ◌+◌, ◌-◌, ◌^◌, min};
 
 use crate::answers::accepted;
 use crate::closing::Closed;
+use crate::year::Year;
 use journal::audit;
-use ledger::{Ledger, Line};
+use ledger::Line;
 use sharing::Row;
 
-/// Prints each facility's right and penalty in a closed month, and what they add up to.
-pub fn print_lines(rt: &HostRuntime, ledger: &Ledger, month: u32) -> anyhow::Result<()> {
-    println!(rt; "{:>10} {:>12} {:>12}", "facility", "right", "penalty")?;
-    let mut all = Line::default();
-    for facility in 1..=ledger.facilities() {
-        let line = accepted(rt, "a line of the month", ledger.line(month, facility))?;
-        println!(rt; "{facility:>10} {:>12} {:>12}", line.right, line.penalty)?;
-        all = both(all, line);
+impl Year<'_> {
+    /// Prints each facility's right and penalty in a closed month, and what they add up to.
+    pub fn print_lines(&self, month: u32) -> anyhow::Result<()> {
+        println!(self.rt; "{:>10} {:>12} {:>12}", "facility", "right", "penalty")?;
+        let mut all = Line::default();
+        for facility in 1..=self.ledger.facilities() {
+            let line = self.ledger.line(month, facility);
+            let line = accepted(self.rt, "a line of the month", line)?;
+            println!(self.rt; "{facility:>10} {:>12} {:>12}", line.right, line.penalty)?;
+            all = both(all, line);
+        }
+        println!(self.rt; "{:>10} {:>12} {:>12}", "all", all.right, all.penalty)?;
+        Ok(())
     }
-    println!(rt; "{:>10} {:>12} {:>12}", "all", all.right, all.penalty)?;
-    Ok(())
+
+    /// Prints what the ledger has booked so far: its closed months, and the rights and the penalties of all lines.
+    pub fn print_totals(&self) -> anyhow::Result<()> {
+        let totals = audit(&self.ledger);
+        println!(self.rt; "{:>10} {:>12} {:>12}", "months", "rights", "penalties")?;
+        println!(self.rt;
+            "{:>10} {:>12} {:>12}",
+            totals.months, totals.rights, totals.penalties
+        )?;
+        Ok(())
+    }
 }
 
 /// Prints a closed month's total with its rule, and what the buyers pay.
@@ -35,17 +50,6 @@ pub fn print_rows(rt: &HostRuntime, rows: &[Row]) -> anyhow::Result<()> {
         all = all.saturating_add(row.charge);
     }
     println!(rt; "{:>10} {:>12} {all:>12}", "all", "")?;
-    Ok(())
-}
-
-/// Prints what the ledger has booked so far: its closed months, and the rights and the penalties of all lines.
-pub fn print_totals(rt: &HostRuntime, ledger: &Ledger) -> anyhow::Result<()> {
-    let totals = audit(ledger);
-    println!(rt; "{:>10} {:>12} {:>12}", "months", "rights", "penalties")?;
-    println!(rt;
-        "{:>10} {:>12} {:>12}",
-        totals.months, totals.rights, totals.penalties
-    )?;
     Ok(())
 }
 

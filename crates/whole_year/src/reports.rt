@@ -1,9 +1,10 @@
 //! What the facilities report of a month's stress hours, and the reports that are not taken.
 ghost use Rattle.std.specs.Prelude.{◌≡◌};
 
-use crate::answers::{accepted, refused};
+use crate::answers::refused;
 use crate::facilities::{CONSUMER, LATE_PLANT, NEW_STORE, PLANT, STORE};
 use crate::records::{Hours, Month, records};
+use crate::year::Year;
 use ledger::{Ledger, LedgerFault, Refusal};
 use metering::{
     Demand, DemandHour, Energy, Kind, MeteringFault, Report, Storage, StorageHour, Test, Thermal,
@@ -75,105 +76,95 @@ const UNORDERED: Energy = Energy {
     delivered: 0,
 };
 
-/// Takes the reports of a month: those that come each month, and then those of this month alone.
-pub fn take_reports(rt: &HostRuntime, ledger: &mut Ledger, month: Month) -> anyhow::Result<()> {
-    report_usual::<Thermal>(rt, ledger, month, PLANT, PLANT_HOURS)?;
-    report_usual::<Storage>(rt, ledger, month, STORE, STORE_HOURS)?;
-    report_usual::<Demand>(rt, ledger, month, CONSUMER, CONSUMER_HOURS)?;
-    if month.number >= LATE_PLANT_REPORTS {
-        report_usual::<Thermal>(rt, ledger, month, LATE_PLANT, LATE_PLANT_HOURS)?;
+impl Year<'_> {
+    /// Takes the reports of a month: those that come each month, and then those of this month alone.
+    pub fn take_reports(&mut self, month: Month) -> anyhow::Result<()> {
+        self.report_usual::<Thermal>(month, PLANT, PLANT_HOURS)?;
+        self.report_usual::<Storage>(month, STORE, STORE_HOURS)?;
+        self.report_usual::<Demand>(month, CONSUMER, CONSUMER_HOURS)?;
+        if month.number >= LATE_PLANT_REPORTS {
+            self.report_usual::<Thermal>(month, LATE_PLANT, LATE_PLANT_HOURS)?;
+        }
+        if month.number >= NEW_STORE_REPORTS {
+            self.report_usual::<Storage>(month, NEW_STORE, NEW_STORE_HOURS)?;
+        }
+        match month.number {
+            1 => self.report_in_january(month),
+            2 => self.report_in_february(month),
+            3 => self.report_in_march(month),
+            4 => self.report_in_april(month),
+            _ => Ok(()),
+        }
     }
-    if month.number >= NEW_STORE_REPORTS {
-        report_usual::<Storage>(rt, ledger, month, NEW_STORE, NEW_STORE_HOURS)?;
+
+    /// A facility's report of a month, without a test.
+    fn report_usual<K: Kind>(
+        &mut self,
+        month: Month,
+        facility: u32,
+        hours: Hours<K::Hour>,
+    ) -> anyhow::Result<()>
+    where
+        K::Hour: Copy,
+    {
+        let all = month.records(self.rt.alloc(), hours)?;
+        self.report::<K>("a month's report", facility, &all, None)
     }
-    match month.number {
-        1 => report_in_january(rt, ledger, month),
-        2 => report_in_february(rt, ledger, month),
-        3 => report_in_march(rt, ledger, month),
-        4 => report_in_april(rt, ledger, month),
-        _ => Ok(()),
+
+    /// The plant reports again, with a test in stress hours, one of which fails.
+    fn report_in_january(&mut self, month: Month) -> anyhow::Result<()> {
+        let all = month.records(self.rt.alloc(), PLANT_HOURS)?;
+        let test = Test {
+            first: 710,
+            hours: &[pair(951), pair(950), pair(1_000)],
+        };
+        self.report::<Thermal>("the plant's tested report", PLANT, &all, Some(test))
     }
-}
 
-/// A facility's report of a month, without a test.
-fn report_usual<K: Kind>(
-    rt: &HostRuntime,
-    ledger: &mut Ledger,
-    month: Month,
-    facility: u32,
-    hours: Hours<K::Hour>,
-) -> anyhow::Result<()>
-where
-    K::Hour: Copy,
-{
-    let all = month.records(rt.alloc(), hours)?;
-    accepted(
-        rt,
-        "a month's report",
-        hand_in::<K>(ledger, facility, &all, None),
-    )
-}
+    /// The plant reports again, with half the records.
+    fn report_in_february(&mut self, month: Month) -> anyhow::Result<()> {
+        let half = records(self.rt.alloc(), PLANT_HOURS, 0, month.stress / 2)?;
+        refused(
+            self.rt,
+            "half the plant's records",
+            MeteringFault::Records.into(),
+            hand_in::<Thermal>(&mut self.ledger, PLANT, &half, None),
+        )
+    }
 
-/// The plant reports again, with a test in stress hours, one of which fails.
-fn report_in_january(rt: &HostRuntime, ledger: &mut Ledger, month: Month) -> anyhow::Result<()> {
-    let all = month.records(rt.alloc(), PLANT_HOURS)?;
-    let test = Test {
-        first: 710,
-        hours: &[pair(951), pair(950), pair(1_000)],
-    };
-    accepted(
-        rt,
-        "the plant's tested report",
-        hand_in::<Thermal>(ledger, PLANT, &all, Some(test)),
-    )
-}
+    /// The store reports again, with a test that orders nothing in its second hour; and the consumer with one that fails
+    /// in an hour that is no stress hour.
+    fn report_in_march(&mut self, month: Month) -> anyhow::Result<()> {
+        let stored = month.records(self.rt.alloc(), STORE_HOURS)?;
+        let test = Test {
+            first: 1_510,
+            hours: &[pair(1_000), UNORDERED],
+        };
+        refused(
+            self.rt,
+            "a test that orders nothing",
+            MeteringFault::Test { place: Some(2) }.into(),
+            hand_in::<Storage>(&mut self.ledger, STORE, &stored, Some(test)),
+        )?;
+        let consumed = month.records(self.rt.alloc(), CONSUMER_HOURS)?;
+        let test = Test {
+            first: 1_600,
+            hours: &[pair(1_000), pair(900)],
+        };
+        let call = "the consumer's tested report";
+        self.report::<Demand>(call, CONSUMER, &consumed, Some(test))
+    }
 
-/// The plant reports again, with half the records.
-fn report_in_february(rt: &HostRuntime, ledger: &mut Ledger, month: Month) -> anyhow::Result<()> {
-    let half = records(rt.alloc(), PLANT_HOURS, 0, month.stress / 2)?;
-    refused(
-        rt,
-        "half the plant's records",
-        MeteringFault::Records.into(),
-        hand_in::<Thermal>(ledger, PLANT, &half, None),
-    )
-}
-
-/// The store reports again, with a test that orders nothing in its second hour; and the consumer with one that fails
-/// in an hour that is no stress hour.
-fn report_in_march(rt: &HostRuntime, ledger: &mut Ledger, month: Month) -> anyhow::Result<()> {
-    let stored = month.records(rt.alloc(), STORE_HOURS)?;
-    let test = Test {
-        first: 1_510,
-        hours: &[pair(1_000), UNORDERED],
-    };
-    refused(
-        rt,
-        "a test that orders nothing",
-        MeteringFault::Test { place: Some(2) }.into(),
-        hand_in::<Storage>(ledger, STORE, &stored, Some(test)),
-    )?;
-    let consumed = month.records(rt.alloc(), CONSUMER_HOURS)?;
-    let test = Test {
-        first: 1_600,
-        hours: &[pair(1_000), pair(900)],
-    };
-    accepted(
-        rt,
-        "the consumer's tested report",
-        hand_in::<Demand>(ledger, CONSUMER, &consumed, Some(test)),
-    )
-}
-
-/// The consumer reports as a thermal plant does.
-fn report_in_april(rt: &HostRuntime, ledger: &mut Ledger, month: Month) -> anyhow::Result<()> {
-    let all = month.records(rt.alloc(), PLANT_HOURS)?;
-    refused(
-        rt,
-        "a consumer's report as a plant",
-        Refusal::OtherLetter.into(),
-        hand_in::<Thermal>(ledger, CONSUMER, &all, None),
-    )
+    /// The consumer reports as a thermal plant does.
+    fn report_in_april(&mut self, month: Month) -> anyhow::Result<()> {
+        let all = month.records(self.rt.alloc(), PLANT_HOURS)?;
+        refused(
+            self.rt,
+            "a consumer's report as a plant",
+            Refusal::OtherLetter.into(),
+            hand_in::<Thermal>(&mut self.ledger, CONSUMER, &all, None),
+        )
+    }
 }
 
 /// A test hour for which 1,000 kWh were ordered.

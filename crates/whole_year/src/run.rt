@@ -1,8 +1,8 @@
 //! A short run of calls over two months: the same that the law of the journal is worked out for.
 use crate::answers::{accepted, numbered, refused};
 use crate::buyers::buyer;
-use crate::print::{print_lines, print_rows, print_totals};
-use crate::reports::hand_in;
+use crate::print::print_rows;
+use crate::year::Year;
 use calendar::COMMON_YEAR;
 use journal::worked_run;
 use ledger::{Ledger, LedgerFault, MOST_MODULES, Module, Refusal};
@@ -28,31 +28,74 @@ const PRICE: u32 = 12;
 pub fn print_run(rt: &HostRuntime) -> anyhow::Result<()> {
     worked_run();
     println!(rt; "The worked run")?;
-    let mut ledger = Ledger::new();
+    let mut year = Year::new(rt);
     let mut rows = [buyer(1, 1), buyer(2, 1), buyer(3, 1)];
-    begin(rt, &mut ledger)?;
-    award(rt, &mut ledger)?;
-    accepted(rt, "the cut-off", ledger.cut_off())?;
-    accepted(rt, "the advance", ledger.advance(&Running, &mut rows))?;
-    accepted(rt, "the closing", ledger.close(&Running, &mut rows))?;
-    print_month(rt, &ledger, &rows)?;
-    cede(rt, &mut ledger)?;
-    accepted(rt, "the cut-off", ledger.cut_off())?;
-    report(rt, &mut ledger, WINNER, CEDED)?;
-    report(rt, &mut ledger, TAKER, 0)?;
-    report(rt, &mut ledger, TAKER, 240)?;
-    accepted(rt, "the advance", ledger.advance(&Running, &mut rows))?;
-    accepted(rt, "the closing", ledger.close(&Remainder, &mut rows))?;
-    print_month(rt, &ledger, &rows)?;
-    print_totals(rt, &ledger)
+    year.begin_run()?;
+    year.award_winner()?;
+    year.cut_off()?;
+    year.advance(&mut rows)?;
+    year.close(&Running, &mut rows)?;
+    year.print_last_month(&rows)?;
+    year.cede_to_taker()?;
+    year.cut_off()?;
+    year.report_hour(WINNER, CEDED)?;
+    year.report_hour(TAKER, 0)?;
+    year.report_hour(TAKER, 240)?;
+    year.advance(&mut rows)?;
+    year.close(&Remainder, &mut rows)?;
+    year.print_last_month(&rows)?;
+    year.print_totals()
 }
 
-/// Opens the year, of which February has the first stress hour, and registers both facilities.
-fn begin(rt: &HostRuntime, ledger: &mut Ledger) -> anyhow::Result<()> {
-    accepted(rt, "opening", ledger.open(COMMON_YEAR, &[1_415], &[438]))?;
-    numbered(rt, "registering", WINNER, register(ledger))?;
-    numbered(rt, "registering", TAKER, register(ledger))?;
-    accepted(rt, "switching on", ledger.switch(WINNER, true))
+impl Year<'_> {
+    /// Opens the year, of which February has the first stress hour, and registers both facilities.
+    fn begin_run(&mut self) -> anyhow::Result<()> {
+        let answer = self.ledger.open(COMMON_YEAR, &[1_415], &[438]);
+        accepted(self.rt, "opening", answer)?;
+        numbered(self.rt, "registering", WINNER, register(&mut self.ledger))?;
+        numbered(self.rt, "registering", TAKER, register(&mut self.ledger))?;
+        self.switch("switching on", WINNER, true)
+    }
+
+    /// Awards, after an award that is too small.
+    fn award_winner(&mut self) -> anyhow::Result<()> {
+        refused(
+            self.rt,
+            "awarding too few kW",
+            Refusal::OutOfLimits.into(),
+            self.ledger.award(WINNER, 600, PRICE),
+        )?;
+        let answer = self.ledger.award(WINNER, KW, PRICE);
+        numbered(self.rt, "awarding", AWARD, answer)
+    }
+
+    /// Cedes half of the award, and prints who holds it.
+    fn cede_to_taker(&mut self) -> anyhow::Result<()> {
+        self.switch("switching on", TAKER, true)?;
+        let answer = self.ledger.cede(AWARD, WINNER, TAKER, CEDED);
+        accepted(self.rt, "ceding", answer)?;
+        println!(self.rt;
+            "held after the cession: {} and {} kW",
+            self.ledger.holding(AWARD, WINNER),
+            self.ledger.holding(AWARD, TAKER)
+        )?;
+        Ok(())
+    }
+
+    /// A facility's report of February's one stress hour.
+    fn report_hour(&mut self, facility: u32, declared: u32) -> anyhow::Result<()> {
+        let hours = [ThermalHour {
+            declared,
+            least: 100,
+        }];
+        self.report::<Thermal>("the report", facility, &hours, None)
+    }
+
+    /// Prints the month that was closed last.
+    fn print_last_month(&self, rows: &[Row]) -> anyhow::Result<()> {
+        self.print_lines(self.ledger.closed_months())?;
+        print_rows(self.rt, rows)
+    }
 }
 
 /// Registers a thermal facility of one module.
@@ -63,51 +106,4 @@ fn register(ledger: &mut Ledger) -> Result<u32, LedgerFault> {
         coefficient: 1_000,
     };
     ledger.register(Thermal::LETTER, modules, 1, FIRM)
-}
-
-/// Awards, after an award that is too small.
-fn award(rt: &HostRuntime, ledger: &mut Ledger) -> anyhow::Result<()> {
-    refused(
-        rt,
-        "awarding too few kW",
-        Refusal::OutOfLimits.into(),
-        ledger.award(WINNER, 600, PRICE),
-    )?;
-    numbered(rt, "awarding", AWARD, ledger.award(WINNER, KW, PRICE))
-}
-
-/// Cedes half of the award, and prints who holds it.
-fn cede(rt: &HostRuntime, ledger: &mut Ledger) -> anyhow::Result<()> {
-    accepted(rt, "switching on", ledger.switch(TAKER, true))?;
-    accepted(rt, "ceding", ledger.cede(AWARD, WINNER, TAKER, CEDED))?;
-    println!(rt;
-        "held after the cession: {} and {} kW",
-        ledger.holding(AWARD, WINNER),
-        ledger.holding(AWARD, TAKER)
-    )?;
-    Ok(())
-}
-
-/// A facility's report of February's one stress hour.
-fn report(
-    rt: &HostRuntime,
-    ledger: &mut Ledger,
-    facility: u32,
-    declared: u32,
-) -> anyhow::Result<()> {
-    let hours = [ThermalHour {
-        declared,
-        least: 100,
-    }];
-    accepted(
-        rt,
-        "the report",
-        hand_in::<Thermal>(ledger, facility, &hours, None),
-    )
-}
-
-/// Prints the month that was closed last.
-fn print_month(rt: &HostRuntime, ledger: &Ledger, rows: &[Row]) -> anyhow::Result<()> {
-    print_lines(rt, ledger, ledger.closed_months())?;
-    print_rows(rt, rows)
 }
