@@ -93,10 +93,5 @@ fn as_worked(line: Line, total: u64, rows: [Row; BUYERS]) -> bool
     ensures total { result ≡ true → total ≡ 9_645_162 }
     ensures charged { result ≡ true → charges_in rows ≡ 3_215_054 ∷ 3_215_054 ∷ 3_215_054 ∷ [] }
 {
-    let [first, second, third] = rows;
-    line == JANUARY
-        && total == TOTAL
-        && first.charge == CHARGE
-        && second.charge == CHARGE
-        && third.charge == CHARGE
+    line == JANUARY && total == TOTAL && rows.iter().all(|row| row.charge == CHARGE)
 }

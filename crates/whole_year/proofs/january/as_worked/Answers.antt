@@ -1,22 +1,25 @@
--- The charges of three rows, one by one. Assumes nothing.
-use Rattle.std.proofs.Common.{◌≡◌, ℕ, List, [], ◌∷◌, length, get_or, arith}
-use Rattle.std.proofs.lemmas.Bool.{eqb-true}
+-- The charges of three rows, each of them the same. Assumes nothing.
+use Rattle.std.proofs.Common.{rules, tests, arith, ◌≡◌, ◌==◌, true, ℕ, List, [], ◌∷◌, length, replicate, ap, sym, ◌∙◌}
+use Rattle.std.specs.List.{list_all}
+use Rattle.std.proofs.lemmas.Bool.{and_parts, eqb-true}
+use Rattle.std.proofs.lemmas.Iterator.{YieldsList-from_slice}
+use Rattle.std.proofs.lemmas.Iterator.Search.{all_from_yields_List}
 use Rattle.sharing.specs.declared.rows.Row.{Row}
 use Rattle.sharing.specs.Rows.{charges_in}
 use Rattle.whole_year.proofs.january.as_worked.Goals as goal
 
--- a row that is not there
-abbrev none : Row
-none = record { id = 0; mwh = 0; charge = 0 }
+-- rows that are all charged k
+all_charged : (k : ℕ) (rows : List Row) → list_all (λ r. r.charge == k) rows ≡ true → charges_in rows ≡ replicate (length rows) k
+all_charged k [] all = cc
+all_charged k (r ∷ rows) all =
+    let both = and_parts (r.charge == k) (list_all (λ x. x.charge == k) rows) all in
+    let first = eqb-true r.charge k both.0 in
+    let rest = all_charged k rows both.1 in
+    cc
 
-three : (rows : List Row) (k : ℕ) → length rows ≡ 3 → (get_or rows 0 none).charge ≡ k → (get_or rows 1 none).charge ≡ k → (get_or rows 2 none).charge ≡ k → charges_in rows ≡ k ∷ k ∷ k ∷ []
-three [] k long p q r = absurd (omega (arith, long))
-three (a ∷ []) k long p q r = absurd (omega (arith, long))
-three (a ∷ b ∷ []) k long p q r = absurd (omega (arith, long))
-three (a ∷ b ∷ c ∷ []) k long p q r = cc
-three (a ∷ b ∷ c ∷ d ∷ rows) k long p q r = absurd (omega (arith, long))
-
-pub returns-then-second-eq-CHARGE-clause-charged : goal.returns-then-second-eq-CHARGE-clause-charged
-returns-then-second-eq-CHARGE-clause-charged c is =
-    let tests = c.if-second-eq-CHARGE.true in
-    three c.args.rows 3_215_054 (omega arith) tests.2 tests.3 (eqb-true (get_or c.args.rows 2 none).charge 3_215_054 is)
+pub returns-then-total-eq-TOTAL-clause-charged : goal.returns-then-total-eq-TOTAL-clause-charged
+returns-then-total-eq-TOTAL-clause-charged c is =
+    let rows = c.args.rows in
+    let all = all_from_yields_List (λ r. r.charge == 3_215_054) _ _ c.all.result c.all.ensures.ran (YieldsList-from_slice rows cc) (λ x b q k. search (rules, tests)) in
+    let three : length rows ≡ 3 = omega arith in
+    all_charged 3_215_054 rows (sym all ∙ is) ∙ ap (λ n. replicate n 3_215_054) three
