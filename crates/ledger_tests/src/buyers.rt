@@ -1,5 +1,6 @@
 //! The buyers' rows.
 use sharing::Row;
+use std::fmt::Debug;
 use std::process::Abort;
 
 /// How many buyers there are.
@@ -29,6 +30,6 @@ pub fn idle(charge: u64) -> [Row; 2] {
 }
 
 /// The rows that a call left are these.
-pub fn left(rt: &impl Abort, call: u32, rows: &[Row], expected: &[Row]) {
-    assert_eq!(rt; rows, expected, "rows of call {call}");
+pub fn left(rt: &impl Abort, call: impl Debug + Drop, rows: &[Row], expected: &[Row]) {
+    assert_eq!(rt; rows, expected, "rows of call {call:?}");
 }

@@ -12,3 +12,5 @@ mod january;
 mod metered;
 #[cfg(test)]
 mod tests;
+#[cfg(test)]
+mod year;

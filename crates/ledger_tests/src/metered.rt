@@ -1,6 +1,7 @@
 //! The reports of January, whose stress hours are the 44 from 700 to 743.
 use crate::answers::{accepted, barred, refused};
-use ledger::{Layer, Ledger, LedgerFault};
+use crate::year::Year;
+use ledger::{Layer, LedgerFault};
 use metering::{Demand, DemandHour, Energy, Kind, Report, Storage, StorageHour, Test};
 use std::process::Abort;
 use std::test::Fail;
@@ -21,43 +22,45 @@ const DRAWN: DemandHour = DemandHour {
     residual: 0,
 };
 
-/// Call 22, before the cut-off.
-pub fn report_early(rt: &impl Abort, ledger: &mut Ledger) -> Result<(), Fail> {
-    barred(rt, 22, report::<Storage>(ledger, &[STORED; 44], None), 7)
-}
+impl<A: Abort> Year<'_, A> {
+    /// Call 22, before the cut-off.
+    pub fn report_early(&mut self) -> Result<(), Fail> {
+        barred(self.rt, 22, self.report::<Storage>(&[STORED; 44], None), 7)
+    }
 
-/// Calls 25 to 29.
-pub fn report_january(rt: &impl Abort, ledger: &mut Ledger) -> Result<(), Fail> {
-    let answer = report::<Demand>(ledger, &[AS_CONSUMER; 44], untested());
-    barred(rt, 25, answer, 16)?;
-    let answer = report::<Storage>(ledger, &[STORED; 43], tested(700, &[pair(0, 0)]));
-    refused(rt, 26, answer, 17, Layer::Metering, 0)?;
-    let pairs = [pair(1_000, 1_000), pair(0, 0)];
-    let answer = report::<Storage>(ledger, &[STORED; 44], tested(700, &pairs));
-    refused(rt, 27, answer, 18, Layer::Metering, 2)?;
-    let answer = report::<Storage>(ledger, &[STORED; 44], tested(744, &[pair(1_000, 1_000)]));
-    refused(rt, 28, answer, 18, Layer::Metering, 0)?;
-    let answer = report::<Storage>(ledger, &[STORED; 44], tested(700, &[pair(1_000, 950)]));
-    accepted(rt, 29, answer, ())
-}
+    /// Calls 25 to 29.
+    pub fn report_january(&mut self) -> Result<(), Fail> {
+        let answer = self.report::<Demand>(&[AS_CONSUMER; 44], untested());
+        barred(self.rt, 25, answer, 16)?;
+        let answer = self.report::<Storage>(&[STORED; 43], tested(700, &[pair(0, 0)]));
+        refused(self.rt, 26, answer, 17, Layer::Metering, 0)?;
+        let pairs = [pair(1_000, 1_000), pair(0, 0)];
+        let answer = self.report::<Storage>(&[STORED; 44], tested(700, &pairs));
+        refused(self.rt, 27, answer, 18, Layer::Metering, 2)?;
+        let answer = self.report::<Storage>(&[STORED; 44], tested(744, &[pair(1_000, 1_000)]));
+        refused(self.rt, 28, answer, 18, Layer::Metering, 0)?;
+        let answer = self.report::<Storage>(&[STORED; 44], tested(700, &[pair(1_000, 950)]));
+        accepted(self.rt, 29, answer, ())
+    }
 
-/// Facility 1 reports.
-fn report<K: Kind>(
-    ledger: &mut Ledger,
-    hours: &[K::Hour],
-    test: Option<Test>,
-) -> Result<(), LedgerFault> {
-    ledger.report::<K>(1, &Report { hours, test })
-}
+    /// Facility 1 reports.
+    fn report<K: Kind>(
+        &mut self,
+        hours: &[K::Hour],
+        test: Option<Test>,
+    ) -> Result<(), LedgerFault> {
+        self.ledger.report::<K>(1, &Report { hours, test })
+    }
 
-/// Facility 2 is upheld, by a report with a test of three hours.
-pub fn uphold(ledger: &mut Ledger, first: u32) -> Result<(), LedgerFault> {
-    let pairs = [pair(500, 500), pair(500, 475), pair(500, 476)];
-    let report: Report<Demand> = Report {
-        hours: &[DRAWN; 44],
-        test: tested(first, &pairs),
-    };
-    ledger.uphold::<Demand>(2, &report)
+    /// Facility 2 is upheld, by a report with a test of three hours.
+    pub fn uphold(&mut self, first: u32) -> Result<(), LedgerFault> {
+        let pairs = [pair(500, 500), pair(500, 475), pair(500, 476)];
+        let report: Report<Demand> = Report {
+            hours: &[DRAWN; 44],
+            test: tested(first, &pairs),
+        };
+        self.ledger.uphold::<Demand>(2, &report)
+    }
 }
 
 fn tested(first: u32, hours: &[Energy]) -> Option<Test> {

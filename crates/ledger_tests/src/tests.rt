@@ -1,9 +1,10 @@
 //! The run of docs/RULES.md, 'A run of calls with all answers', over its whole year; and a year without awards.
-use crate::answers::{accepted, barred, booked, read};
+use crate::answers::{accepted, barred};
 use crate::buyers::{BEFORE, BUYERS, buyers, charged, idle, left};
-use crate::january::{FIRSTS, LENGTHS, keep_january, module};
+use crate::january::{FIRSTS, LENGTHS, module};
+use crate::year::{Year, line};
 use calendar::LEAP_YEAR;
-use ledger::{Ledger, Line, MOST_MODULES};
+use ledger::{Line, MOST_MODULES};
 use sharing::{Remainder, Running, SharingRule};
 use std::process::Abort;
 use std::test::Fail;
@@ -12,10 +13,8 @@ use std::test::Fail;
 #[derive(Clone, Copy)]
 struct Month {
     number: u32,
-    /// The rights of facilities 1 and 2.
-    rights: [u64; 2],
-    /// The penalties of facilities 1 and 2.
-    penalties: [u64; 2],
+    /// The lines of facilities 1 and 2.
+    lines: [Line; 2],
     /// What the buyers owe together.
     total: u64,
     /// What each of them is charged.
@@ -24,10 +23,10 @@ struct Month {
 
 /// A month without a penalty.
 fn full(number: u32, rights: [u64; 2], total: u64, charges: [u64; BUYERS]) -> Month {
+    let [first, second] = rights;
     Month {
         number,
-        rights,
-        penalties: [0, 0],
+        lines: [line(first, 0), line(second, 0)],
         total,
         charges,
     }
@@ -35,8 +34,9 @@ fn full(number: u32, rights: [u64; 2], total: u64, charges: [u64; BUYERS]) -> Mo
 
 /// A month in which both facilities lose their whole rights.
 fn lost(number: u32, rights: [u64; 2]) -> Month {
+    let [first, second] = rights;
     Month {
-        penalties: rights,
+        lines: [line(first, first), line(second, second)],
         ..full(number, rights, 0, [0; BUYERS])
     }
 }
@@ -58,98 +58,97 @@ fn months() -> [Month; 11] {
     ]
 }
 
-/// Keeps a month in which nobody reports, by its three calls, and reads its lines.
-fn keep_unreported(rt: &impl Abort, ledger: &mut Ledger, month: Month) -> Result<(), Fail> {
-    accepted(rt, 1, ledger.cut_off(), ())?;
-    let mut rows = buyers();
-    accepted(rt, 2, ledger.advance(&Running, &mut rows), month.total)?;
-    left(rt, 2, &rows, &charged(month.charges));
-    let mut rows = buyers();
-    accepted(rt, 3, ledger.close(&Running, &mut rows), month.total)?;
-    left(rt, 3, &rows, &charged(month.charges));
-    booked(
-        rt,
-        ledger,
-        month.number,
-        1,
-        month.rights[0],
-        month.penalties[0],
-    )?;
-    booked(
-        rt,
-        ledger,
-        month.number,
-        2,
-        month.rights[1],
-        month.penalties[1],
-    )?;
-    booked(rt, ledger, month.number, 3, 0, 0)
+/// Two lines added up.
+fn both(first: Line, second: Line) -> Line {
+    line(
+        first.right.saturating_add(second.right),
+        first.penalty.saturating_add(second.penalty),
+    )
 }
 
-/// The rights and the penalties of a facility, added up over its lines of the year.
-fn year_of(ledger: &Ledger, facility: u32) -> Result<(u64, u64), Fail> {
-    let mut rights: u64 = 0;
-    let mut penalties: u64 = 0;
-    for month in 1..=12 {
-        let Line { right, penalty } = read(ledger, month, facility)?;
-        rights = rights.saturating_add(right);
-        penalties = penalties.saturating_add(penalty);
+impl<A: Abort> Year<'_, A> {
+    /// Keeps a month in which nobody reports, by its three calls, and reads its lines.
+    fn keep_unreported(&mut self, month: Month) -> Result<(), Fail> {
+        let number = month.number;
+        accepted(self.rt, (number, 1), self.ledger.cut_off(), ())?;
+        let mut rows = buyers();
+        let answer = self.ledger.advance(&Running, &mut rows);
+        accepted(self.rt, (number, 2), answer, month.total)?;
+        left(self.rt, (number, 2), &rows, &charged(month.charges));
+        let mut rows = buyers();
+        let answer = self.ledger.close(&Running, &mut rows);
+        accepted(self.rt, (number, 3), answer, month.total)?;
+        left(self.rt, (number, 3), &rows, &charged(month.charges));
+        let [first, second] = month.lines;
+        self.booked(number, 1, first)?;
+        self.booked(number, 2, second)?;
+        self.booked(number, 3, Line::default())
     }
-    Ok((rights, penalties))
-}
 
-/// The lines of the year add up to its totals.
-fn add_up(rt: &impl Abort, ledger: &Ledger) -> Result<(), Fail> {
-    let (rights, penalties) = year_of(ledger, 1)?;
-    let (more_rights, more_penalties) = year_of(ledger, 2)?;
-    assert_eq!(rt; rights.saturating_add(more_rights), 9_601_500);
-    assert_eq!(rt; penalties.saturating_add(more_penalties), 1_638_136);
-    assert_eq!(rt; year_of(ledger, 3)?, (0, 0));
-    Ok(())
-}
+    /// The lines of a facility, added up over the year.
+    fn all_of(&self, facility: u32) -> Result<Line, Fail> {
+        let mut all = Line::default();
+        for month in 1..=12 {
+            all = both(all, self.read(month, facility)?);
+        }
+        Ok(all)
+    }
 
-/// After the last closing only lines are read.
-fn end(rt: &impl Abort, ledger: &mut Ledger) -> Result<(), Fail> {
-    assert_eq!(rt; ledger.closed_months(), 12);
-    let nothing = [module(0, 0); MOST_MODULES];
-    barred(rt, 1, ledger.register(b'T', nothing, 1, 0), 6)?;
-    barred(rt, 2, ledger.open(LEAP_YEAR, &FIRSTS, &LENGTHS), 2)?;
-    booked(rt, ledger, 1, 1, 699_919, 15_907)?;
-    booked(rt, ledger, 12, 2, 100_205, 0)
+    /// The lines of the year add up to its totals.
+    fn add_up(&self) -> Result<(), Fail> {
+        let all = both(self.all_of(1)?, self.all_of(2)?);
+        assert_eq!(self.rt; all, line(9_601_500, 1_638_136));
+        assert_eq!(self.rt; self.all_of(3)?, Line::default());
+        Ok(())
+    }
+
+    /// After the last closing only lines are read.
+    fn end(&mut self) -> Result<(), Fail> {
+        assert_eq!(self.rt; self.ledger.closed_months(), 12);
+        let nothing = [module(0, 0); MOST_MODULES];
+        barred(self.rt, 1, self.ledger.register(b'T', nothing, 1, 0), 6)?;
+        let answer = self.ledger.open(LEAP_YEAR, &FIRSTS, &LENGTHS);
+        barred(self.rt, 2, answer, 2)?;
+        self.booked(1, 1, line(699_919, 15_907))?;
+        self.booked(12, 2, line(100_205, 0))
+    }
+
+    /// Keeps a month in which nothing is earned, over buyers of no weight.
+    fn keep_idle<R: SharingRule>(&mut self, month: u32, rule: &R) -> Result<(), Fail> {
+        accepted(self.rt, (month, 1), self.ledger.cut_off(), ())?;
+        let mut rows = idle(BEFORE);
+        let answer = self.ledger.advance(rule, &mut rows);
+        accepted(self.rt, (month, 2), answer, 0)?;
+        left(self.rt, (month, 2), &rows, &idle(0));
+        let mut rows = idle(BEFORE);
+        let answer = self.ledger.close(rule, &mut rows);
+        accepted(self.rt, (month, 3), answer, 0)?;
+        left(self.rt, (month, 3), &rows, &idle(0));
+        Ok(())
+    }
 }
 
 #[test]
 fn a_year_with_all_answers(rt: HostRuntime) -> Result<(), Fail> {
-    let mut ledger = Ledger::new();
-    keep_january(&rt, &mut ledger)?;
+    let mut year = Year::new(&rt);
+    year.keep_january()?;
     for month in months() {
-        keep_unreported(&rt, &mut ledger, month)?;
+        year.keep_unreported(month)?;
     }
-    add_up(&rt, &ledger)?;
-    end(&rt, &mut ledger)
-}
-
-/// Keeps a month in which nothing is earned, over buyers of no weight.
-fn keep_idle<R: SharingRule>(rt: &impl Abort, ledger: &mut Ledger, rule: &R) -> Result<(), Fail> {
-    accepted(rt, 1, ledger.cut_off(), ())?;
-    let mut rows = idle(BEFORE);
-    accepted(rt, 2, ledger.advance(rule, &mut rows), 0)?;
-    left(rt, 2, &rows, &idle(0));
-    let mut rows = idle(BEFORE);
-    accepted(rt, 3, ledger.close(rule, &mut rows), 0)?;
-    left(rt, 3, &rows, &idle(0));
-    Ok(())
+    year.add_up()?;
+    year.end()
 }
 
 #[test]
 fn a_year_without_awards(rt: HostRuntime) -> Result<(), Fail> {
-    let mut ledger = Ledger::new();
-    accepted(&rt, 0, ledger.open(LEAP_YEAR, &FIRSTS, &LENGTHS), ())?;
-    for _turn in 1..=6u32 {
-        keep_idle(&rt, &mut ledger, &Running)?;
-        keep_idle(&rt, &mut ledger, &Remainder)?;
+    let mut year = Year::new(&rt);
+    let answer = year.ledger.open(LEAP_YEAR, &FIRSTS, &LENGTHS);
+    accepted(&rt, 0, answer, ())?;
+    for turn in 1..=6u32 {
+        year.keep_idle(2 * turn - 1, &Running)?;
+        year.keep_idle(2 * turn, &Remainder)?;
     }
-    assert_eq!(rt; ledger.closed_months(), 12);
-    barred(&rt, 4, ledger.cut_off(), 6)?;
-    barred(&rt, 5, ledger.line(12, 1), 8)
+    assert_eq!(rt; year.ledger.closed_months(), 12);
+    barred(&rt, 4, year.ledger.cut_off(), 6)?;
+    barred(&rt, 5, year.ledger.line(12, 1), 8)
 }
