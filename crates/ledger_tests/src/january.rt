@@ -46,10 +46,10 @@ impl<A: Abort> Year<'_, A> {
 
     /// Calls 7 to 9.
     fn register(&mut self) -> Result<(), Fail> {
-        let none = module(0, 0);
-        let two = [module(3_000, 700), module(1_001, 900), none, none];
+        let none = Module::default();
+        let two = [Module::new(3_000, 700), Module::new(1_001, 900), none, none];
         accepted(self.rt, 7, self.ledger.register(b'S', two, 2, 5_000), 1)?;
-        let one = [module(2_000, 1_000), none, none, none];
+        let one = [Module::new(2_000, 1_000), none, none, none];
         accepted(self.rt, 8, self.ledger.register(b'D', one, 1, 2_000), 2)?;
         barred(self.rt, 9, self.ledger.register(b'a', one, 1, 2_000), 11)
     }
@@ -141,16 +141,8 @@ impl<A: Abort> Year<'_, A> {
         barred(self.rt, 45, self.ledger.line(2, 1), 24)?;
         barred(self.rt, 46, self.ledger.line(2, 3), 8)?;
         barred(self.rt, 47, self.ledger.award(3, 1_000, 1), 7)?;
-        let nothing = [module(0, 0); MOST_MODULES];
+        let nothing = [Module::default(); MOST_MODULES];
         accepted(self.rt, 48, self.ledger.register(b'T', nothing, 1, 0), 3)?;
         self.booked(1, 3, line(0, 0))
-    }
-}
-
-/// A module of so many kW, of which so many thousandths are firm.
-pub fn module(installed: u32, coefficient: u32) -> Module {
-    Module {
-        installed,
-        coefficient,
     }
 }

@@ -1,10 +1,10 @@
 //! The run of docs/RULES.md, 'A run of calls with all answers', over its whole year; and a year without awards.
 use crate::answers::{accepted, barred};
 use crate::buyers::{BEFORE, BUYERS, buyers, charged, idle, left};
-use crate::january::{FIRSTS, LENGTHS, module};
+use crate::january::{FIRSTS, LENGTHS};
 use crate::year::{Year, line};
-use calendar::LEAP_YEAR;
-use ledger::{Line, MOST_MODULES};
+use calendar::{LEAP_YEAR, MONTHS};
+use ledger::{Line, MOST_MODULES, Module};
 use sharing::{Remainder, Running, SharingRule};
 use std::process::Abort;
 use std::test::Fail;
@@ -88,7 +88,7 @@ impl<A: Abort> Year<'_, A> {
     /// The lines of a facility, added up over the year.
     fn all_of(&self, facility: u32) -> Result<Line, Fail> {
         let mut all = Line::default();
-        for month in 1..=12 {
+        for month in 1..=MONTHS as u32 {
             all = both(all, self.read(month, facility)?);
         }
         Ok(all)
@@ -105,7 +105,7 @@ impl<A: Abort> Year<'_, A> {
     /// After the last closing only lines are read.
     fn end(&mut self) -> Result<(), Fail> {
         assert_eq!(self.rt; self.ledger.closed_months(), 12);
-        let nothing = [module(0, 0); MOST_MODULES];
+        let nothing = [Module::default(); MOST_MODULES];
         barred(self.rt, 1, self.ledger.register(b'T', nothing, 1, 0), 6)?;
         let answer = self.ledger.open(LEAP_YEAR, &FIRSTS, &LENGTHS);
         barred(self.rt, 2, answer, 2)?;

@@ -1,6 +1,4 @@
 //! The facilities of the year, and their registering.
-ghost use Rattle.std.specs.Prelude.{◌≡◌};
-
 use crate::answers::{numbered, refused};
 use crate::year::Year;
 use ledger::{Ledger, LedgerFault, MOST_MODULES, Module, Refusal};
@@ -72,23 +70,13 @@ fn enter(ledger: &mut Ledger, entry: Entry) -> Result<u32, LedgerFault> {
     ledger.register(entry.letter, entry.modules, entry.count, entry.access)
 }
 
-/// A module of so many kW, of which so many thousandths are firm.
-fn of_kw(installed: u32, coefficient: u32) -> Module
-    ensures { result ≡ record { installed = installed; coefficient = coefficient } }
-{
-    Module {
-        installed,
-        coefficient,
-    }
-}
-
 /// Its firm power is its access, 95,000 kW, since its modules make 95,020.
 fn plant() -> Entry {
     Entry {
         letter: Thermal::LETTER,
         modules: [
-            of_kw(100_000, 900),
-            of_kw(20_000, 251),
+            Module::new(100_000, 900),
+            Module::new(20_000, 251),
             Module::default(),
             Module::default(),
         ],
@@ -102,8 +90,8 @@ fn store() -> Entry {
     Entry {
         letter: Storage::LETTER,
         modules: [
-            of_kw(30_000, 700),
-            of_kw(10_010, 900),
+            Module::new(30_000, 700),
+            Module::new(10_010, 900),
             Module::default(),
             Module::default(),
         ],
@@ -117,7 +105,7 @@ fn consumer() -> Entry {
     Entry {
         letter: Demand::LETTER,
         modules: [
-            of_kw(20_000, 1_000),
+            Module::new(20_000, 1_000),
             Module::default(),
             Module::default(),
             Module::default(),
@@ -132,7 +120,7 @@ fn late_plant() -> Entry {
     Entry {
         letter: Thermal::LETTER,
         modules: [
-            of_kw(60_000, 850),
+            Module::new(60_000, 850),
             Module::default(),
             Module::default(),
             Module::default(),
@@ -147,7 +135,7 @@ fn new_store() -> Entry {
     Entry {
         letter: Storage::LETTER,
         modules: [
-            of_kw(12_000, 800),
+            Module::new(12_000, 800),
             Module::default(),
             Module::default(),
             Module::default(),

@@ -1,10 +1,8 @@
 //! The stress hours of the year: its runs, the opening that takes them, and the months that they fall into.
 use crate::answers::{accepted, refused};
 use crate::year::Year;
-use calendar::{Calendar, CalendarFault, LEAP_YEAR};
+use calendar::{Calendar, CalendarFault, LEAP_YEAR, MONTHS};
 
-/// The months of a year.
-pub const MONTHS: u32 = 12;
 /// How many runs of stress hours the year has.
 const RUNS: usize = 9;
 /// The first hours of the runs. Two of them reach into the next month, and May and September have none.
@@ -45,7 +43,7 @@ pub fn print_months(rt: &HostRuntime, calendar: &Calendar) -> anyhow::Result<()>
         "{:>10} {:>10} {:>12}",
         "month", "from hour", "stress hours"
     )?;
-    for month in 1..=MONTHS {
+    for month in 1..=MONTHS as u32 {
         let begins = calendar.month_begins(month);
         let stress = calendar.stress_hours_in(month);
         println!(rt; "{month:>10} {begins:>10} {stress:>12}")?;

@@ -74,10 +74,7 @@ impl Year<'_> {
     fn begin_january(&mut self) -> anyhow::Result<()> {
         let answer = self.ledger.open(COMMON_YEAR, &[0], &[STRESS]);
         accepted(self.rt, "opening", answer)?;
-        let modules = [Module {
-            installed: KW,
-            coefficient: 1_000,
-        }; MOST_MODULES];
+        let modules = [Module::new(KW, 1_000); MOST_MODULES];
         let answer = self.ledger.register(Thermal::LETTER, modules, 1, KW);
         numbered(self.rt, "registering", FACILITY, answer)?;
         self.switch("switching on", FACILITY, true)?;

@@ -1,10 +1,11 @@
 //! The course of the year: its months, one after another, in one ledger.
 use crate::answers::{accepted, refused};
 use crate::facilities::PLANT;
-use crate::hours::{MONTHS, planned, print_months};
+use crate::hours::{planned, print_months};
 use crate::print::print_closed;
 use crate::records::Month;
 use crate::year::Year;
+use calendar::MONTHS;
 use ledger::{Line, Refusal};
 
 /// Keeps the whole year, and prints it.
@@ -15,7 +16,7 @@ pub fn keep_year(rt: &HostRuntime) -> anyhow::Result<()> {
     year.open()?;
     print_months(rt, &calendar)?;
     year.register_first()?;
-    for number in 1..=MONTHS {
+    for number in 1..=MONTHS as u32 {
         let stress = calendar.stress_hours_in(number) as usize;
         year.keep_month(Month { number, stress })?;
     }

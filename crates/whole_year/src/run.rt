@@ -101,9 +101,6 @@ impl Year<'_> {
 /// Registers a thermal facility of one module.
 fn register(ledger: &mut Ledger) -> Result<u32, LedgerFault> {
     let mut modules = [Module::default(); MOST_MODULES];
-    modules[0] = Module {
-        installed: FIRM,
-        coefficient: 1_000,
-    };
+    modules[0] = Module::new(FIRM, 1_000);
     ledger.register(Thermal::LETTER, modules, 1, FIRM)
 }
