@@ -11,6 +11,7 @@ use Rattle.metering.specs.declared.fault.MeteringFault.{MeteringFault}
 use Rattle.metering.specs.declared.fault.MeteringFault.TheVariants as fault
 use Rattle.metering.specs.Testing.{failed_in}
 use Rattle.metering.specs.Measuring.{credited_energy, counted_hours, test_in_order, test_place}
+use Rattle.ledger.specs.declared.kept.Ledger.{Ledger}
 use Rattle.ledger.specs.declared.state.Book.{Book}
 use Rattle.ledger.specs.Form.{held_in_all, month_of}
 use Rattle.ledger.specs.declared.course.Call.TheVariants as call
@@ -18,8 +19,8 @@ use Rattle.ledger.specs.Judged.{ruled, kept_or}
 use Rattle.ledger.specs.Reporting.{letter_rows, measured_for, taken, with_measured}
 use Rattle.ledger.specs.Claiming.{claim_of}
 use Rattle.ledger.specs.Upholding.{upheld_by, upheld}
-use Rattle.ledger.specs.Entries.{Done, meant, reporting, upholding}
-use Rattle.ledger.specs.Runs.{measured_by, Allowed}
+use Rattle.ledger.specs.Entries.{Done, Journal, meant, reporting, upholding}
+use Rattle.ledger.specs.Runs.{measured_by, Recorded, noted}
 
 module _ {H : Type 0} (credit : H → ℕ → ℕ) (k : ℕ) (fails : ℕ → Bool) where
   -- the credits of records are those of what the records mean
@@ -52,13 +53,16 @@ measured_meant letter shortest longest credit b f records test =
     ap (λ n. answer n (credited_energy credit (held_in_all b.trade (f - 1)) (failed_in test) hours records)) (sym (length-map records credit))
     ∙ ap (answer (length (map credit records))) (credits_meant credit (held_in_all b.trade (f - 1)) (failed_in test) hours records)
 
-module _ {H : Type 0} (letter shortest longest : ℕ) (credit : H → ℕ → ℕ) (b : Book) (f : ℕ) (records : List H) (test : Option Test) (r : Done) (b' : Book) where
-  -- what reporting allows of the report, it allows of what the report means
-  pub reporting_meant : r ≡ ruled (letter_rows call.Report b f letter) (taken (measured_for shortest longest credit b f records test)) → b' ≡ kept_or r (with_measured b f (measured_for shortest longest credit b f records test)) b → Allowed b (reporting f (meant letter shortest longest credit records test) r) b'
-  reporting_meant answer after =
-      subst (λ m. (r ≡ ruled (letter_rows call.Report b f letter) (taken m)) × (b' ≡ kept_or r (with_measured b f m) b)) (measured_meant letter shortest longest credit b f records test) (answer, after)
+module _ {H : Type 0} (letter shortest longest : ℕ) (credit : H → ℕ → ℕ) (l : Ledger) (f : ℕ) (records : List H) (test : Option Test) (r : Done) (after : Ledger) (j : Journal) where
+  abbrev b : Book
+  b = l.book
 
-  -- and so does upholding
-  pub upholding_meant : r ≡ ruled (letter_rows call.Answer b f letter) (upheld_by (measured_for shortest longest credit b f records test) (claim_of b f)) → b' ≡ kept_or r (upheld b f (measured_for shortest longest credit b f records test)) b → Allowed b (upholding f (meant letter shortest longest credit records test) r) b'
-  upholding_meant answer after =
-      subst (λ m. (r ≡ ruled (letter_rows call.Answer b f letter) (upheld_by m (claim_of b f))) × (b' ≡ kept_or r (upheld b f m) b)) (measured_meant letter shortest longest credit b f records test) (answer, after)
+  -- a report that was answered and taken so is noted by what it means
+  pub reporting_noted : r ≡ ruled (letter_rows call.Report b f letter) (taken (measured_for shortest longest credit b f records test)) → after.book ≡ kept_or r (with_measured b f (measured_for shortest longest credit b f records test)) b → Recorded j l → Recorded (reporting f (meant letter shortest longest credit records test) r ∷ j) after
+  reporting_noted answer stands h =
+      noted j _ l after h (subst (λ m. (r ≡ ruled (letter_rows call.Report b f letter) (taken m)) × (after.book ≡ kept_or r (with_measured b f m) b)) (measured_meant letter shortest longest credit b f records test) (answer, stands))
+
+  -- and so is a claim that was upheld
+  pub upholding_noted : r ≡ ruled (letter_rows call.Answer b f letter) (upheld_by (measured_for shortest longest credit b f records test) (claim_of b f)) → after.book ≡ kept_or r (upheld b f (measured_for shortest longest credit b f records test)) b → Recorded j l → Recorded (upholding f (meant letter shortest longest credit records test) r ∷ j) after
+  upholding_noted answer stands h =
+      noted j _ l after h (subst (λ m. (r ≡ ruled (letter_rows call.Answer b f letter) (upheld_by m (claim_of b f))) × (after.book ≡ kept_or r (upheld b f m) b)) (measured_meant letter shortest longest credit b f records test) (answer, stands))
