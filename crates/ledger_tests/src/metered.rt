@@ -42,7 +42,9 @@ impl<A: Abort> Year<'_, A> {
         let answer = self.report::<Storage>(&[STORED; 44], tested(700, &[pair(1_000, 950)]));
         accepted(self.rt, 29, answer, ())
     }
+}
 
+impl<A> Year<'_, A> {
     /// Facility 1 reports.
     fn report<K: Kind>(
         &mut self,

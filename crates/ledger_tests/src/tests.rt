@@ -5,7 +5,7 @@ use crate::january::{FIRSTS, LENGTHS};
 use crate::year::{Year, line};
 use calendar::{LEAP_YEAR, MONTHS};
 use ledger::{Line, MOST_MODULES, Module};
-use sharing::{Remainder, Running, SharingRule};
+use sharing::{Remainder, Row, Running, SharingRule};
 use std::process::Abort;
 use std::test::Fail;
 
@@ -66,25 +66,7 @@ fn both(first: Line, second: Line) -> Line {
     )
 }
 
-impl<A: Abort> Year<'_, A> {
-    /// Keeps a month in which nobody reports, by its three calls, and reads its lines.
-    fn keep_unreported(&mut self, month: Month) -> Result<(), Fail> {
-        let number = month.number;
-        accepted(self.rt, (number, 1), self.ledger.cut_off(), ())?;
-        let mut rows = buyers();
-        let answer = self.ledger.advance(&Running, &mut rows);
-        accepted(self.rt, (number, 2), answer, month.total)?;
-        left(self.rt, (number, 2), &rows, &charged(month.charges));
-        let mut rows = buyers();
-        let answer = self.ledger.close(&Running, &mut rows);
-        accepted(self.rt, (number, 3), answer, month.total)?;
-        left(self.rt, (number, 3), &rows, &charged(month.charges));
-        let [first, second] = month.lines;
-        self.booked(number, 1, first)?;
-        self.booked(number, 2, second)?;
-        self.booked(number, 3, Line::default())
-    }
-
+impl<A> Year<'_, A> {
     /// The lines of a facility, added up over the year.
     fn all_of(&self, facility: u32) -> Result<Line, Fail> {
         let mut all = Line::default();
@@ -92,6 +74,41 @@ impl<A: Abort> Year<'_, A> {
             all = both(all, self.read(month, facility)?);
         }
         Ok(all)
+    }
+}
+
+impl<A: Abort> Year<'_, A> {
+    /// Keeps a month in which nobody reports, by its three calls: before the claims and after them it comes to this
+    /// total, and the buyers are charged so.
+    fn keep_month<R: SharingRule, const N: usize>(
+        &mut self,
+        month: u32,
+        rule: &R,
+        before: [Row; N],
+        total: u64,
+        after: [Row; N],
+    ) -> Result<(), Fail> {
+        accepted(self.rt, (month, 1), self.ledger.cut_off(), ())?;
+        let mut rows = before;
+        let answer = self.ledger.advance(rule, &mut rows);
+        accepted(self.rt, (month, 2), answer, total)?;
+        left(self.rt, (month, 2), &rows, &after);
+        let mut rows = before;
+        let answer = self.ledger.close(rule, &mut rows);
+        accepted(self.rt, (month, 3), answer, total)?;
+        left(self.rt, (month, 3), &rows, &after);
+        Ok(())
+    }
+
+    /// Keeps a month in which nobody reports, and reads its lines.
+    fn keep_unreported(&mut self, month: Month) -> Result<(), Fail> {
+        let number = month.number;
+        let after = charged(month.charges);
+        self.keep_month(number, &Running, buyers(), month.total, after)?;
+        let [first, second] = month.lines;
+        self.booked(number, 1, first)?;
+        self.booked(number, 2, second)?;
+        self.booked(number, 3, Line::default())
     }
 
     /// The lines of the year add up to its totals.
@@ -115,16 +132,7 @@ impl<A: Abort> Year<'_, A> {
 
     /// Keeps a month in which nothing is earned, over buyers of no weight.
     fn keep_idle<R: SharingRule>(&mut self, month: u32, rule: &R) -> Result<(), Fail> {
-        accepted(self.rt, (month, 1), self.ledger.cut_off(), ())?;
-        let mut rows = idle(BEFORE);
-        let answer = self.ledger.advance(rule, &mut rows);
-        accepted(self.rt, (month, 2), answer, 0)?;
-        left(self.rt, (month, 2), &rows, &idle(0));
-        let mut rows = idle(BEFORE);
-        let answer = self.ledger.close(rule, &mut rows);
-        accepted(self.rt, (month, 3), answer, 0)?;
-        left(self.rt, (month, 3), &rows, &idle(0));
-        Ok(())
+        self.keep_month(month, rule, idle(BEFORE), 0, idle(0))
     }
 }
 

@@ -5,12 +5,12 @@ use std::test::Fail;
 
 /// A delivery year: the ledger that it is kept in, and the runtime that ends the test where an answer is another.
 #[derive(Drop)]
-pub struct Year<'a, A: Abort> {
+pub struct Year<'a, A> {
     pub rt: &'a A,
     pub ledger: Ledger,
 }
 
-impl<'a, A: Abort> Year<'a, A> {
+impl<'a, A> Year<'a, A> {
     /// A year that is not opened yet.
     pub fn new(rt: &'a A) -> Self {
         Year {
@@ -26,7 +26,9 @@ impl<'a, A: Abort> Year<'a, A> {
             fault.number()
         )))
     }
+}
 
+impl<A: Abort> Year<'_, A> {
     /// The facility's line of the month is this one.
     pub fn booked(&self, month: u32, facility: u32, line: Line) -> Result<(), Fail> {
         let read = self.read(month, facility)?;
