@@ -1,5 +1,5 @@
 //! The house rules on examples, and the rule of the largest remainder against a plain computation by sorting.
-use sharing::{Remainder, Row, Running, SharingRule, total_mwh};
+use sharing::{MOST_ROWS, Remainder, Row, Running, SharingRule, total_mwh};
 use std::alloc::{AllocError, Global};
 use std::process::Abort;
 use std::test::Fail;
@@ -7,8 +7,6 @@ use std::test::Fail;
 const MOST_CENTS: u64 = 30_000_000_000;
 
 const MOST_MWH: u64 = 40_000_000;
-
-const MOST_ROWS: usize = 1_024;
 
 /// A row's claim to a cent: how far its remainder is short of one, so that sorted claims begin with the largest
 /// remainder, and among equals with the earlier row.
@@ -88,13 +86,10 @@ fn agrees(rt: &impl Abort, heap: Global, total: u64, mwhs: &[u32]) -> Result<(),
 
 /// As many rows as there may be, of as many MWh as there may be together.
 fn most_rows(heap: Global) -> Result<Vec<u32>, AllocError> {
-    let mut mwhs = Vec::new(heap);
-    let mut rest: u32 = 40_000_000;
-    for i in 0..1_023u32 {
-        let mwh = 39_000 + i * 37 % 61;
-        rest = rest.saturating_sub(mwh);
-        mwhs.push(mwh)?;
-    }
+    let mut mwhs: Vec<u32> = (0..1_023u32).map(|i| 39_000 + i * 37 % 61).collect(heap)?;
+    let rest = mwhs
+        .iter()
+        .fold(40_000_000u32, |rest, &mwh| rest.saturating_sub(mwh));
     mwhs.push(rest)?;
     Ok(mwhs)
 }
