@@ -61,18 +61,12 @@ fn january<K: Kind>(commitment: u32, hours: &[K::Hour]) -> Result<Measured, Mete
     month::<K>(1, commitment, hours, None)
 }
 
-/// Whether the month came to these counted hours and this credited energy.
-fn comes_to(
-    rt: &impl Abort,
-    answer: Result<Measured, MeteringFault>,
-    counted: u32,
-    credited: u64,
-) -> Result<(), Fail> {
+/// The month came to these counted hours and this credited energy.
+fn comes_to(rt: &impl Abort, answer: Result<Measured, MeteringFault>, counted: u32, credited: u64) {
     assert_eq!(rt; answer, Ok(Measured { counted, credited }));
-    Ok(())
 }
 
-/// Whether the month was refused by this number at this place.
+/// The month was refused by this number at this place.
 fn refused(
     rt: &impl Abort,
     answer: Result<Measured, MeteringFault>,
@@ -107,27 +101,27 @@ const FAILED: Energy = Energy {
 };
 
 #[test]
-fn a_failed_stress_hour_counts_once_and_credits_nothing(rt: HostRuntime) -> Result<(), Fail> {
+fn a_failed_stress_hour_counts_once_and_credits_nothing(rt: HostRuntime) {
     let passed = Some(Test {
         first: 743,
         hours: &[GOOD],
     });
-    comes_to(&rt, month::<Storage>(1, 1_000, &FULL, passed), 744, 744_000)?;
+    comes_to(&rt, month::<Storage>(1, 1_000, &FULL, passed), 744, 744_000);
     let failed = Some(Test {
         first: 743,
         hours: &[FAILED],
     });
-    comes_to(&rt, month::<Storage>(1, 1_000, &FULL, failed), 744, 743_000)
+    comes_to(&rt, month::<Storage>(1, 1_000, &FULL, failed), 744, 743_000);
 }
 
 #[test]
-fn a_failed_hour_that_is_no_stress_hour_adds_one(rt: HostRuntime) -> Result<(), Fail> {
-    comes_to(&rt, month::<Demand>(2, 1_000, &IDLE, None), 0, 0)?;
+fn a_failed_hour_that_is_no_stress_hour_adds_one(rt: HostRuntime) {
+    comes_to(&rt, month::<Demand>(2, 1_000, &IDLE, None), 0, 0);
     let test = Some(Test {
         first: 744,
         hours: &[FAILED, GOOD, FAILED],
     });
-    comes_to(&rt, month::<Demand>(2, 1_000, &IDLE, test), 2, 0)?;
+    comes_to(&rt, month::<Demand>(2, 1_000, &IDLE, test), 2, 0);
     let generous = Some(Test {
         first: 1_415,
         hours: &[Energy {
@@ -135,27 +129,27 @@ fn a_failed_hour_that_is_no_stress_hour_adds_one(rt: HostRuntime) -> Result<(), 
             delivered: 4_294_967_295,
         }],
     });
-    comes_to(&rt, month::<Demand>(2, 1_000, &IDLE, generous), 0, 0)
+    comes_to(&rt, month::<Demand>(2, 1_000, &IDLE, generous), 0, 0);
 }
 
 #[test]
-fn credits_of_the_kinds(rt: HostRuntime) -> Result<(), Fail> {
+fn credits_of_the_kinds(rt: HostRuntime) {
     let thermal = [ThermalHour {
         declared: 20_000,
         least: 20_000,
     }; 744];
-    comes_to(&rt, january::<Thermal>(50_000, &thermal), 744, 14_880_000)?;
-    comes_to(&rt, january::<Thermal>(10_000, &thermal), 744, 7_440_000)?;
+    comes_to(&rt, january::<Thermal>(50_000, &thermal), 744, 14_880_000);
+    comes_to(&rt, january::<Thermal>(10_000, &thermal), 744, 7_440_000);
     let stopped = [ThermalHour {
         declared: 9_999,
         least: 10_000,
     }; 744];
-    comes_to(&rt, january::<Thermal>(50_000, &stopped), 744, 0)?;
+    comes_to(&rt, january::<Thermal>(50_000, &stopped), 744, 0);
     let demand = [DemandHour {
         consumption: 900,
         residual: 400,
     }; 744];
-    comes_to(&rt, january::<Demand>(600, &demand), 744, 372_000)?;
+    comes_to(&rt, january::<Demand>(600, &demand), 744, 372_000);
     let wind = [WindHour {
         forecast: 4_294_967_295,
     }; 744];
@@ -164,11 +158,11 @@ fn credits_of_the_kinds(rt: HostRuntime) -> Result<(), Fail> {
         january::<Wind>(4_294_967_295, &wind),
         744,
         319_545_566_376,
-    )
+    );
 }
 
 #[test]
-fn each_hour_is_credited_by_its_own_record(rt: HostRuntime) -> Result<(), Fail> {
+fn each_hour_is_credited_by_its_own_record(rt: HostRuntime) {
     let mut hours = [ThermalHour {
         declared: 0,
         least: 0,
@@ -177,15 +171,15 @@ fn each_hour_is_credited_by_its_own_record(rt: HostRuntime) -> Result<(), Fail> 
     hours[1].declared = 200;
     hours[743].declared = 300;
     // 100 + 200 + 300
-    comes_to(&rt, january::<Thermal>(1_000, &hours), 744, 600)?;
+    comes_to(&rt, january::<Thermal>(1_000, &hours), 744, 600);
     // The second hour failed: 100 + 300.
     let test = Some(Test {
         first: 0,
         hours: &[GOOD, FAILED, GOOD],
     });
-    comes_to(&rt, month::<Thermal>(1, 1_000, &hours, test), 744, 400)?;
+    comes_to(&rt, month::<Thermal>(1, 1_000, &hours, test), 744, 400);
     // The same under 250 kW: 100 + 250.
-    comes_to(&rt, month::<Thermal>(1, 250, &hours, test), 744, 350)
+    comes_to(&rt, month::<Thermal>(1, 250, &hours, test), 744, 350);
 }
 
 #[test]
@@ -241,10 +235,9 @@ fn the_place_of_a_wrong_order(rt: HostRuntime) -> Result<(), Fail> {
 }
 
 #[test]
-fn without_a_report(rt: HostRuntime) -> Result<(), Fail> {
+fn without_a_report(rt: HostRuntime) {
     let calendar = Calendar::new();
-    comes_to(&rt, Ok(unreported(&calendar, 1)), 744, 0)?;
-    comes_to(&rt, Ok(unreported(&calendar, 2)), 0, 0)?;
+    comes_to(&rt, Ok(unreported(&calendar, 1)), 744, 0);
+    comes_to(&rt, Ok(unreported(&calendar, 2)), 0, 0);
     assert_eq!(rt; unreported(&calendar, 1).required(50_000), 37_200_000);
-    Ok(())
 }
