@@ -55,14 +55,6 @@ fn charges_of(heap: Global, rows: &[Row]) -> Result<Vec<u64>, AllocError> {
     rows.iter().map(|row| row.charge).collect(heap)
 }
 
-/// Shares by the rule, where the limits are kept; whether the rule did not refuse.
-fn share_within<R: SharingRule>(rule: &R, total: u64, rows: &mut [Row]) -> Result<bool, Fail> {
-    if total > MOST_CENTS || rows.len() > MOST_ROWS || total_mwh(rows) > MOST_MWH {
-        return Err(Fail::new("past the limits"));
-    }
-    Ok(rule.share(total, rows).is_ok())
-}
-
 /// What the rule charges rows of these MWh.
 fn shared<R: SharingRule>(
     rt: &impl Abort,
@@ -72,7 +64,8 @@ fn shared<R: SharingRule>(
     mwhs: &[u32],
 ) -> Result<Vec<u64>, Fail> {
     let mut rows = rows_of(heap, mwhs)?;
-    assert!(rt; share_within(rule, total, &mut rows)?);
+    assert!(rt; total <= MOST_CENTS && rows.len() <= MOST_ROWS && total_mwh(&rows) <= MOST_MWH);
+    assert!(rt; rule.share(total, &mut rows).is_ok());
     Ok(charges_of(heap, &rows)?)
 }
 
@@ -127,14 +120,15 @@ fn short_lists(rt: HostRuntime) -> Result<(), Fail> {
 }
 
 #[test]
-fn nothing_to_share_by(rt: HostRuntime) -> Result<(), Fail> {
-    let mut rows = rows_of(rt.alloc(), &[0, 0])?;
-    assert!(rt; !share_within(&Remainder, 1, &mut rows)?);
-    assert_eq!(rt;
-        charges_of(rt.alloc(), &rows)?,
-        vec![in rt.alloc(); 99, 99]?
-    );
-    Ok(())
+fn nothing_to_share_by(rt: HostRuntime) {
+    let weightless = [Row {
+        id: 7,
+        mwh: 0,
+        charge: 99,
+    }; 2];
+    let mut rows = weightless;
+    assert!(rt; Remainder.share(1, &mut rows).is_err());
+    assert_eq!(rt; rows, weightless);
 }
 
 #[test]
