@@ -1,31 +1,44 @@
-//! The year's calendar: filled, and printed month by month.
-use calendar::{Calendar, LEAP_YEAR, MONTHS};
+//! The stress hours of the year: its runs, the opening that takes them, and the months that they fall into.
+use crate::answers::{accepted, refused};
+use crate::year::Year;
+use calendar::{Calendar, CalendarFault, LEAP_YEAR, MONTHS};
 
-/// The first hours and the lengths of the year's runs of stress hours.
-const FIRSTS: [u16; 3] = [700, 1_500, 8_000];
+/// How many runs of stress hours the year has.
+const RUNS: usize = 9;
+/// The first hours of the runs. Two of them reach into the next month, and May and September have none.
+const FIRSTS: [u16; RUNS] = [700, 1_500, 2_400, 3_900, 4_500, 5_300, 6_700, 7_500, 8_030];
+/// The lengths of the runs.
+const LENGTHS: [u16; RUNS] = [100, 60, 24, 48, 72, 36, 40, 30, 40];
+/// Lengths by which the first run ends where the second begins.
+const TOUCHING: [u16; RUNS] = [800, 60, 24, 48, 72, 36, 40, 30, 40];
 
-const LENGTHS: [u16; 3] = [100, 340, 60];
-
-/// Prints a filled calendar's months with their stress hours, and a filling that is refused.
-pub fn print_year(rt: &HostRuntime) -> anyhow::Result<()> {
-    let mut calendar = Calendar::new();
-    println!(rt; "A leap year with 500 stress hours")?;
-    fill_and_print(rt, &mut calendar, LEAP_YEAR, &LENGTHS)?;
-    println!(rt; "The same with runs that touch")?;
-    fill_and_print(rt, &mut calendar, LEAP_YEAR, &[800, 340, 60])
+impl Year<'_> {
+    /// Opens the year, after an opening with runs that touch.
+    pub fn open(&mut self) -> anyhow::Result<()> {
+        refused(
+            self.rt,
+            "opening with runs that touch",
+            CalendarFault::Run { place: 2 }.into(),
+            self.ledger.open(LEAP_YEAR, &FIRSTS, &TOUCHING),
+        )?;
+        let answer = self.ledger.open(LEAP_YEAR, &FIRSTS, &LENGTHS);
+        accepted(self.rt, "opening", answer)
+    }
 }
 
-/// Fills the calendar and prints its months, or prints why it is not filled.
-fn fill_and_print(
-    rt: &HostRuntime,
-    calendar: &mut Calendar,
-    year_hours: u32,
-    lengths: &[u16],
-) -> anyhow::Result<()> {
-    if let Err(fault) = calendar.fill(year_hours, &FIRSTS, lengths) {
-        println!(rt; "refused: {fault}")?;
-        return Ok(());
-    }
+/// The calendar that the year is opened with.
+pub fn planned(rt: &HostRuntime) -> anyhow::Result<Calendar> {
+    let mut calendar = Calendar::new();
+    accepted(
+        rt,
+        "filling the calendar",
+        calendar.fill(LEAP_YEAR, &FIRSTS, &LENGTHS),
+    )?;
+    Ok(calendar)
+}
+
+/// Prints the months with their first hours and their stress hours.
+pub fn print_months(rt: &HostRuntime, calendar: &Calendar) -> anyhow::Result<()> {
     println!(rt;
         "{:>10} {:>10} {:>12}",
         "month", "from hour", "stress hours"

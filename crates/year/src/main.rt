@@ -1,18 +1,32 @@
-//! A settlement, step by step, printed: the year's stress hours, what a facility's month comes to, and what its buyers
-//! pay for it, with the refusals met on the way.
+//! A delivery year, kept in a ledger and printed: its stress hours, month by month its lines, its total and what the
+//! buyers pay, with the refusals met on the way, and the year's totals. Before it the worked January, which is checked,
+//! and the worked run; after it the two house rules side by side.
 
 #![tactic(auto)]
 
+mod answers;
 mod buyers;
-mod facility;
+mod claims;
+mod closing;
+mod facilities;
 mod hours;
+mod january;
+mod months;
+mod print;
+mod records;
+mod reports;
+mod rules;
+mod run;
+mod trading;
+mod year;
 
 fn main(rt: HostRuntime) -> anyhow::Result<()> {
     settle(&rt)
 }
 
 fn settle(rt: &HostRuntime) -> anyhow::Result<()> {
-    hours::print_year(rt)?;
-    facility::print_january(rt)?;
-    buyers::print_month(rt)
+    january::check_january(rt)?;
+    run::print_run(rt)?;
+    months::keep_year(rt)?;
+    rules::print_both(rt)
 }

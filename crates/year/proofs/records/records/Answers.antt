@@ -1,7 +1,7 @@
 -- The records are those of the first hours, and then those of the hours after them. Assumes nothing.
 use Rattle.std.proofs.Common.{◌≡◌, ℕ, ◌-◌, ◌≤◌, min, List, [], ◌++◌, length, take, replicate, vec_items, vec_len, ap, ◌∙◌, arith}
 use Rattle.std.proofs.lemmas.List.{take_all, length-replicate}
-use Rattle.whole_year.proofs.records.records.Goals as goal
+use Rattle.year.proofs.records.records.Goals as goal
 
 -- what an empty list is filled up with
 filled : {A : Type 0} (n z : ℕ) (start some : List A) (f : A) → start ≡ [] → z ≡ 0 → some ≡ take n start ++ replicate (n - z) f → some ≡ replicate n f

@@ -6,7 +6,7 @@ use Rattle.std.proofs.lemmas.Iterator.{YieldsList-from_slice}
 use Rattle.std.proofs.lemmas.Iterator.Search.{all_from_yields_List}
 use Rattle.sharing.specs.declared.rows.Row.{Row}
 use Rattle.sharing.specs.Rows.{charges_in}
-use Rattle.whole_year.proofs.january.as_worked.Goals as goal
+use Rattle.year.proofs.january.as_worked.Goals as goal
 
 -- rows that are all charged k
 all_charged : (k : ℕ) (rows : List Row) → list_all (λ r. r.charge == k) rows ≡ true → charges_in rows ≡ replicate (length rows) k

@@ -1,7 +1,7 @@
 //! The advance and the closing of a month, and the closings that are refused for the buyers' rows.
 ghost use Rattle.std.specs.Prelude.{◌≡◌, ◌%◌, Some};
-ghost use Rattle.whole_year.specs.Rules.{rule_name};
-ghost use Rattle.whole_year.specs.declared.closing.Rule.TheVariants as rule;
+ghost use Rattle.year.specs.Rules.{rule_name};
+ghost use Rattle.year.specs.declared.closing.Rule.TheVariants as rule;
 
 use crate::answers::refused;
 use crate::buyers::{BUYERS, buyer, of_month};

@@ -1,7 +1,7 @@
 -- The names of the house rules. Serves src/closing.rt. Assumes nothing.
 use Rattle.std.specs.Prelude.{ℕ, List, codes}
-use Rattle.whole_year.specs.declared.closing.Rule.{Rule}
-use Rattle.whole_year.specs.declared.closing.Rule.TheVariants as rule
+use Rattle.year.specs.declared.closing.Rule.{Rule}
+use Rattle.year.specs.declared.closing.Rule.TheVariants as rule
 
 -- what is printed of a rule
 abbrev pub rule_name : Rule → List ℕ
