@@ -9,7 +9,7 @@ abbrev pub Rows : Type 0
 Rows = List (Bool × Refusal)
 
 -- the refusal of the first row that applies, or acceptance with its value
-abbrev pub judged : {A : Type 0} → Rows → A → Result A Refusal
+abbrev pub judged : {A E : Type 0} → List (Bool × E) → A → Result A E
 judged [] a = Ok a
 judged (r ∷ rs) a = cond r.0 (Err r.1) (judged rs a)
 

@@ -17,6 +17,7 @@ mod records;
 mod reports;
 mod rules;
 mod run;
+mod statements;
 mod trading;
 mod year;
 

@@ -1,4 +1,6 @@
 //! The course of the year: its months, one after another, in one ledger.
+ghost use Rattle.ledger.specs.Form.{Dated};
+
 use crate::answers::{accepted, refused};
 use crate::facilities::PLANT;
 use crate::hours::{planned, print_months};
@@ -25,7 +27,9 @@ pub fn keep_year(rt: &HostRuntime) -> anyhow::Result<()> {
 
 impl Year<'_> {
     /// Keeps one month, from its trading to its closing.
-    fn keep_month(&mut self, month: Month) -> anyhow::Result<()> {
+    fn keep_month(&mut self, month: Month) -> anyhow::Result<()>
+        requires { Dated month.number }
+    {
         let number = month.number;
         println!(self.rt; "Month {number}, {} stress hours", month.stress)?;
         self.trade(number)?;
@@ -35,7 +39,8 @@ impl Year<'_> {
         self.answer_claims(month)?;
         let closed = self.close_month(number)?;
         self.print_lines(number)?;
-        print_closed(self.rt, &closed)
+        print_closed(self.rt, &closed)?;
+        self.print_statement(number)
     }
 
     /// Meets the end of the year: calls are refused, lines are still read.

@@ -1,0 +1,6 @@
+//! Tests of statements.
+
+#![tactic(auto)]
+
+#[cfg(test)]
+mod tests;
