@@ -25,6 +25,5 @@ pub mod Readings
 pub mod Settling
 pub mod Advancing
 pub mod Closing
-pub mod Worked
 pub mod Entries
 pub mod Runs

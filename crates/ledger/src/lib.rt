@@ -29,7 +29,6 @@ mod settling;
 mod state;
 mod switching;
 mod upholding;
-mod worked;
 
 pub use calendar::MONTHS;
 pub use fault::{Layer, LedgerFault};
