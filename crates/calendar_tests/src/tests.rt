@@ -84,4 +84,8 @@ fn readings_of_every_month_agree(rt: HostRuntime) {
     assert_eq!(rt; calendar.stress_hours_in(3), 330);
     assert_eq!(rt; calendar.stress_hours_in(12), 60);
     assert_eq!(rt; calendar.month_begins(3), 1_440);
+    // There are no months but twelve.
+    assert_eq!(rt; calendar.month_ends(0), 0);
+    assert_eq!(rt; calendar.month_begins(13), 8_784);
+    assert_eq!(rt; calendar.month_ends(13), 8_784);
 }

@@ -89,21 +89,29 @@ fn narrow(number: u32) -> u16 {
     u16::try_from(number).unwrap_or(u16::MAX)
 }
 
-/// An opening that is spoilt in one place.
+/// An opening that is spoilt in one place, or in two.
 pub fn spoilt_opening(heap: Global, dice: &mut Dice) -> Result<Call, AllocError> {
     let mut drawn = draw(heap, dice)?;
+    for _ in 0..dice.within(1, 2) {
+        spoil(dice, &mut drawn)?;
+    }
+    Ok(drawn.opening())
+}
+
+/// Spoils a year or its runs in one place.
+fn spoil(dice: &mut Dice, drawn: &mut Drawn) -> Result<(), AllocError> {
     match dice.within(1, 10) {
         1 => drawn.year_hours = dice.pick(&[0, 8_759, 8_761, 8_783, 8_785, u32::MAX]),
         2 => drawn.firsts.push(0)?,
         3 => drawn.lengths.push(1)?,
-        4 => crowd(&mut drawn)?,
+        4 => crowd(drawn)?,
         5 => change(dice, &mut drawn.lengths),
         6 => change(dice, &mut drawn.firsts),
-        7 | 8 => draw_near(dice, &mut drawn),
-        9 => draw_to_the_end(dice, &mut drawn),
-        _ => empty(&mut drawn),
+        7 | 8 => draw_near(dice, drawn),
+        9 => draw_to_the_end(dice, drawn),
+        _ => empty(drawn),
     }
-    Ok(drawn.opening())
+    Ok(())
 }
 
 /// Has one run more than a year may have.

@@ -47,21 +47,30 @@ impl Second {
 
     /// Judges a call by the journal so far, and enters it. Where memory runs out nothing is entered.
     pub fn play(&mut self, call: Call) -> Result<Answer, AllocError> {
-        let heap = self.heap();
-        let (value, charges) = match settle(judging::judge(heap, self.entries(), &call))? {
-            Ok(Granted { value, charges }) => (Ok(value), charges),
-            Err(refusal) => (Err(refusal), Vec::new(heap)),
-        };
-        let answer = Answer {
-            value,
-            charges: charges.clone()?,
-        };
+        let answer = self.answer_to(&call)?;
+        let charges = answer.charges.clone()?;
         self.journal.push(Entry {
             call,
-            value,
+            value: answer.value,
             charges,
         })?;
         Ok(answer)
+    }
+
+    /// What the journal so far answers to a call.
+    fn answer_to(&self, call: &Call) -> Result<Answer, AllocError> {
+        let heap = self.heap();
+        let judged = settle(judging::judge(heap, self.entries(), call))?;
+        Ok(match judged {
+            Ok(Granted { value, charges }) => Answer {
+                value: Ok(value),
+                charges,
+            },
+            Err(refusal) => Answer {
+                value: Err(refusal),
+                charges: Vec::new(heap),
+            },
+        })
     }
 
     /// The right and the penalty of a facility in a closed month.

@@ -1,17 +1,28 @@
 -- The worked figures of the rules: one list, and what it is for each of them to hold. Serves src/lib.rt. Assumes nothing.
-use Rattle.std.specs.Prelude.{◌≡◌, ℕ, Bool, true, false, List, [], ◌∷◌, length}
+use Rattle.std.specs.Prelude.{◌≡◌, ℕ, Bool, true, false, List, [], ◌∷◌, length, Some, codes}
 use Rattle.calendar.specs.declared.fault.CalendarFault.{CalendarFault}
 use Rattle.calendar.specs.declared.fault.CalendarFault.TheVariants.{Share}
+use Rattle.calendar.specs.declared.fault.CalendarFault.TheVariants.{Run}
+use Rattle.calendar.specs.Faults as calendar
 use Rattle.calendar.specs.Filling.{RefusedFor}
+use Rattle.metering.specs.declared.fault.MeteringFault.TheVariants.{Test}
+use Rattle.metering.specs.Fault as metering
 use Rattle.metering.specs.Testing.{failed}
 use Rattle.sharing.specs.declared.running.Running.{Running}
 use Rattle.sharing.specs.declared.remainder.Remainder.{Remainder}
 use Rattle.sharing.specs.Running.{running_charges}
 use Rattle.sharing.specs.Remainder.{remainder_charges}
 use Rattle.sharing.specs.Split.{split}
+use Rattle.sharing.specs.declared.fault.SharingFault.TheVariants.{NoWeight}
+use Rattle.sharing.specs.Fault as sharing
 use Rattle.ledger.specs.declared.registering.Module.{Module}
 use Rattle.ledger.specs.Registering.{firm_power}
 use Rattle.ledger.specs.Amounts.{amount}
+use Rattle.ledger.specs.declared.fault.LedgerFault.TheVariants as fault
+use Rattle.ledger.specs.declared.refusal.Refusal.TheVariants.{OverFirm}
+use Rattle.ledger.specs.Fault.{fault_text}
+use Rattle.statement.specs.declared.fault.StatementFault.TheVariants.{Limits}
+use Rattle.statement.specs.Fault as statement
 
 pub data Figure : Type 0 where
   -- a year of so many hours with so many stress hours, in one run, is refused for their share
@@ -29,6 +40,8 @@ pub data Figure : Type 0 where
   -- a total is charged by the running rule, or by the rule of the largest remainder, to rows of these MWh
   running : (total : ℕ) (mwhs charges : List ℕ) → Figure
   remainder : (total : ℕ) (mwhs charges : List ℕ) → Figure
+  -- a refusal is printed so
+  printed : (refusal text : List ℕ) → Figure
 
 abbrev pub module_of : ℕ → ℕ → Module
 module_of kw part = record { installed = kw; coefficient = part }
@@ -43,6 +56,7 @@ Holds (earn kw price month cents) = amount kw price month ≡ cents
 Holds (share total kw held cents) = split total kw held ≡ cents
 Holds (running total ms charges) = (rule : Running) → running_charges rule total ms ≡ charges
 Holds (remainder total ms charges) = (rule : Remainder) → remainder_charges rule total ms ≡ charges
+Holds (printed refusal text) = refusal ≡ text
 
 abbrev pub figures : List Figure
 figures =
@@ -64,4 +78,10 @@ figures =
     ∷ share 9 1_000 (500 ∷ 500 ∷ []) (4 ∷ 5 ∷ [])
     ∷ running 100 (1 ∷ 1 ∷ 1 ∷ []) (33 ∷ 33 ∷ 34 ∷ [])
     ∷ remainder 100 (1 ∷ 1 ∷ 1 ∷ []) (34 ∷ 33 ∷ 33 ∷ [])
+    ∷ printed (calendar.text (Run 2)) (codes "4, layer calendar, place 2")
+    ∷ printed (metering.text (Test (Some 2))) (codes "18, layer metering, place 2")
+    ∷ printed (sharing.text NoWeight) (codes "23, layer sharing, place 0")
+    ∷ printed (statement.text Limits) (codes "26, layer statement, place 0")
+    ∷ printed (fault_text (fault.Calendar (Run 2))) (codes "4, layer calendar, place 2")
+    ∷ printed (fault_text (fault.Own OverFirm)) (codes "15, layer ledger, place 0")
     ∷ []

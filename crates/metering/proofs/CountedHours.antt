@@ -12,7 +12,7 @@ use Rattle.metering.specs.Testing.{failed_at}
 use Rattle.metering.specs.Measuring.{counted_hours, only_failed, failed_outside, test_in_order, counting_with}
 
 -- what passes either test, counted once: what passes the first, and what passes only the second
-count_either : {X : Type 0} (p q : X → Bool) (xs : List X) → count_by (λ x. p x || q x) xs ≡ count_by p xs + count_by (λ x. q x && not (p x)) xs
+pub count_either : {X : Type 0} (p q : X → Bool) (xs : List X) → count_by (λ x. p x || q x) xs ≡ count_by p xs + count_by (λ x. q x && not (p x)) xs
 count_either p q [] = refl
 count_either p q (x ∷ xs) =
     let one : ◌≡◌ {A = ℕ} (cond (p x || q x) 1 0) (cond (p x) 1 0 + cond (q x && not (p x)) 1 0) = grind (arith, nat_tests) in

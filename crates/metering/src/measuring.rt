@@ -1,5 +1,5 @@
 //! What a report comes to: counted hours and credited energy.
-ghost use Rattle.std.specs.Prelude.{◌≡◌, ◌+◌, ◌*◌, ◌≤◌, length};
+ghost use Rattle.std.specs.Prelude.{◌≡◌, ◌+◌, ◌*◌, ◌≤◌, length, IfOk, IfSome, OnOk};
 ghost use Rattle.calendar.specs.Stress.{stress_hours};
 ghost use Rattle.metering.specs.Testing.{failed_in};
 ghost use Rattle.metering.specs.Measuring.{credited_energy, failed_outside, counting_with, measuring};
@@ -23,14 +23,17 @@ impl Measured {
     }
 }
 
-/// Measures a month's report under a commitment, or refuses it. Nothing is changed.
+/// Measures a month's report under a commitment, or refuses it. Nothing is changed. No more energy is credited
+/// than required, and a test that is taken has an hour.
 pub fn measure<K: Kind>(
     calendar: &Calendar,
     month: u32,
     commitment: u32,
     report: &Report<K>,
 ) -> Result<Measured, MeteringFault>
-    ensures { result ≡ measuring K.SHORTEST K.LONGEST K.credit calendar.now month commitment report.now.hours.now report.now.test }
+    ensures answer { result ≡ measuring K.SHORTEST K.LONGEST K.credit calendar.now month commitment report.now.hours.now report.now.test }
+    ensures within { IfOk result (λ measured. measured.credited ≤ commitment * measured.counted) }
+    ensures tested { OnOk result (IfSome report.now.test (λ test. 1 ≤ length test.hours.now)) }
 {
     if report.hours.len() != calendar.stress_hours_in(month) as usize {
         return Err(MeteringFault::Records);

@@ -5,9 +5,13 @@ use Rattle.sharing.specs.declared.fault.SharingFault.{SharingFault}
 use Rattle.sharing.specs.declared.fault.SharingFault.TheVariants.{NoWeight}
 use Rattle.sharing.specs.Rows.{charged}
 
+-- the most cents that a rule is asked to share, which no month passes
+abbrev pub most_cents : ℕ
+most_cents = 30_000_000_000
+
 -- a total, and the MWh of rows, that a rule can be asked to share
 pub record Shareable (total : ℕ) (ms : List ℕ) : Type 0 where
-  pub cents : total ≤ 30_000_000_000
+  pub cents : total ≤ most_cents
   pub rows : length ms ≤ 1_024
   pub mwh : sum ms ≤ 40_000_000
 

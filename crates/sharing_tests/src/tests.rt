@@ -1,5 +1,5 @@
 //! The house rules on examples, and the rule of the largest remainder against a plain computation by sorting.
-use sharing::{MOST_ROWS, Remainder, Row, Running, SharingRule, total_mwh};
+use sharing::{MOST_ROWS, Remainder, Row, Running, RunningSplit, SharingRule, total_mwh};
 use std::alloc::{AllocError, Global};
 use std::process::Abort;
 use std::test::Fail;
@@ -139,4 +139,16 @@ fn long_lists(rt: HostRuntime) -> Result<(), Fail> {
     assert_eq!(rt; total_mwh(&rows_of(heap, &most)?), 40_000_000);
     agrees(&rt, heap, 29_999_999_999, &most)?;
     agrees(&rt, heap, 30_000_000_000, &most)
+}
+
+#[test]
+fn the_running_split(rt: HostRuntime) {
+    // The product passes 64 bits, or just does not.
+    assert!(rt; RunningSplit::new(4_294_967_296, 4_294_967_296).is_none());
+    assert!(rt; RunningSplit::new(4_294_967_297, 4_294_967_295).is_some());
+    let mut split = RunningSplit::new(9, 1_000).unwrap();
+    assert_eq!(rt; split.hand(500), Some(4));
+    // More than is left is not handed out, and changes nothing.
+    assert_eq!(rt; split.hand(501), None);
+    assert_eq!(rt; split.hand(500), Some(5));
 }

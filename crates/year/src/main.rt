@@ -21,7 +21,7 @@ mod statements;
 mod trading;
 mod year;
 
-use figures::worked_figures;
+use figures::{worked_figures, worked_laws};
 
 fn main(rt: HostRuntime) -> anyhow::Result<()> {
     settle(&rt)
@@ -29,6 +29,7 @@ fn main(rt: HostRuntime) -> anyhow::Result<()> {
 
 fn settle(rt: &HostRuntime) -> anyhow::Result<()> {
     worked_figures();
+    worked_laws();
     january::check_january(rt)?;
     run::print_run(rt)?;
     months::keep_year(rt)?;
