@@ -1,6 +1,6 @@
-pub mod FromFn
 pub mod Keeping
 pub mod Spans
 pub mod Parts
 pub mod Months
 pub mod Stress
+pub mod FirstBad

@@ -1,20 +1,25 @@
--- The hours of the months: how many, and in order. Assumes nothing.
-use Rattle.std.proofs.Common.{◌≡◌, ℕ, ◌*◌, ◌≤◌, min, List, take, sum, sym, refl, ap, ◌∙◌, subst, inl, inr, arith}
+-- The hours of the months: how many, and in order.
+use Rattle.std.proofs.Common.{◌≡◌, ℕ, ◌-◌, ◌*◌, ◌<◌, ◌≤◌, min, true, List, take, sum, sym, refl, ap, ◌∙◌, subst, inl, inr, arith}
 use Rattle.std.proofs.lemmas.List.{take-take, take_all}
 use Rattle.std.proofs.lemmas.List.Sums.{sum_by-take-le}
 use Rattle.std.proofs.lemmas.Bool.{cases_eq, cases_lt}
-use Rattle.calendar.specs.Form.{YearHours}
-use Rattle.calendar.specs.Months.{days, first_months}
+use Rattle.std.proofs.lemmas.Bool.Decides.{nat_tests}
+use Rattle.calendar.specs.Form.{is_year}
+use Rattle.calendar.specs.Months.{days, first_months, month_begins, month_ends}
+
+-- a year that is not a common one is a leap year
+leap : (year : ℕ) → is_year year ≡ true → (year ≡ 8760 → ⊥) → year ≡ 8784
+leap year right other = grind (arith, nat_tests)
 
 -- the twelve months have the hours of the year
-pub year_days : (year : ℕ) → YearHours year → 24 * sum (days year) ≡ year
+pub year_days : (year : ℕ) → is_year year ≡ true → 24 * sum (days year) ≡ year
 year_days year right =
     let Adds : ℕ → Type 0 = λ y. 24 * sum (days y) ≡ y in
-    elim (cases_eq year 8760) [ inl common ↦ subst Adds (sym common) refl | inr other ↦ subst Adds (sym (right other)) refl ]
+    elim (cases_eq year 8760) [ inl common ↦ subst Adds (sym common) refl | inr other ↦ subst Adds (sym (leap year right other)) refl ]
 
 -- a year has at most 8,784 hours
-pub year_most : (year : ℕ) → YearHours year → year ≤ 8784
-year_most year right = elim (cases_eq year 8760) [ inl common ↦ omega arith | inr other ↦ omega (arith, right other) ]
+pub year_most : (year : ℕ) → is_year year ≡ true → year ≤ 8784
+year_most year right = grind (arith, nat_tests)
 
 -- more months have no fewer hours
 pub first_months_rise : (year m n : ℕ) → m ≤ n → first_months year m ≤ first_months year n
@@ -33,3 +38,9 @@ first_months_twelve year n =
           (let all : min 12 n ≡ 12 = omega arith in
           ap (λ (k : ℕ). 24 * sum (take k (days year))) all ∙ ap (λ (l : List ℕ). 24 * sum l) (sym (take_all n (days year) many)))
     ]
+
+-- behind the year no month has an hour
+pub after_year : (year m : ℕ) → 12 < m → month_begins year m ≡ month_ends year m
+after_year year m past =
+    let same : min 12 (m - 1) ≡ min 12 m = omega arith in
+    sym (first_months_twelve year (m - 1)) ∙ ap (first_months year) same ∙ first_months_twelve year m

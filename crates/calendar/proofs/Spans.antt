@@ -1,4 +1,4 @@
--- The hours of a span, the first and the others. Assumes nothing.
+-- The hours of a span, the first and the others.
 use Rattle.std.proofs.Common.{◌≡◌, ℕ, suc, ◌+◌, ◌-◌, ◌<◌, ◌≤◌, [], ◌∷◌, ap, arith}
 use Rattle.std.specs.List.{range_with_len}
 use Rattle.calendar.specs.Runs.{span}

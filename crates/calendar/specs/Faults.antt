@@ -1,4 +1,4 @@
--- The numbers, places and texts of the refusals of a filling. Assumes nothing.
+-- The numbers, places and texts of the refusals of a filling.
 use Rattle.std.specs.Prelude.{ℕ, List, ◌++◌, codes}
 use Rattle.std.specs.Fmt.{decimal}
 use Rattle.calendar.specs.declared.fault.CalendarFault.{CalendarFault}

@@ -1,57 +1,41 @@
--- What `src/year.rt` and `src/year/form.rt` cite: which hours a year may have, and which runs of stress hours. Assumes nothing.
-use Rattle.std.specs.Prelude.{◌≡◌, ℕ, ◌-◌, ◌*◌, ◌<◌, ◌≤◌, List, length, sum_by, ◌≢◌, slice_index_or}
+-- Which hours a year may have, and which runs of stress hours; so what every calendar keeps.
+use Rattle.std.specs.Prelude.{◌≡◌, ℕ, ◌-◌, ◌*◌, ◌<◌, ◌≤◌, Bool, true, not, ◌&&◌, ◌||◌, List, length, sum_by, Option, position, ◌==◌, nat_le, nat_lt, slice_index_or}
+use Rattle.std.specs.List.{range_with_len}
 use Rattle.calendar.specs.declared.run.Run.{Run}
+use Rattle.calendar.specs.Calendar.{Calendar}
 use Rattle.calendar.specs.Runs.{ends}
 
 -- a common or a leap year has so many hours
-abbrev pub YearHours : ℕ → Type 0
-YearHours year = (year ≢ 8760) → year ≡ 8784
-
--- a run of no hours
-abbrev pub no_run : Run
-no_run = record { first = 0; len = 0 }
+abbrev pub is_year : ℕ → Bool
+is_year hours = hours == 8_760 || hours == 8_784
 
 -- the run at k, counted from 0
 abbrev pub run_at : List Run → ℕ → Run
-run_at rs k = slice_index_or rs k no_run
-
--- the run at k has an hour
-abbrev pub Lasts : List Run → ℕ → Type 0
-Lasts rs k = 1 ≤ (run_at rs k).len
-
--- the run at k ends within the year
-abbrev pub Within : ℕ → List Run → ℕ → Type 0
-Within year rs k = ends (run_at rs k) ≤ year
+run_at rs k = slice_index_or rs k (record { first = 0; len = 0 })
 
 -- the run at k, if it is not the first, begins at least one hour after the end of the run before it
-abbrev pub Apart : List Run → ℕ → Type 0
-Apart rs k = 0 < k → ends (run_at rs (k - 1)) < (run_at rs k).first
+abbrev pub apart : List Run → ℕ → Bool
+apart rs k = k == 0 || nat_lt (ends (run_at rs (k - 1))) (run_at rs k).first
 
--- the run at k is in form
-abbrev pub InForm : ℕ → List Run → ℕ → Type 0
-InForm year rs k = Lasts rs k × Within year rs k × Apart rs k
+-- the run at k is in form: it has an hour, ends within the year, and is apart from the run before it
+abbrev pub in_form : ℕ → List Run → ℕ → Bool
+in_form year rs k = nat_le 1 (run_at rs k).len && nat_le (ends (run_at rs k)) year && apart rs k
 
--- what holds at each place of a list
-abbrev pub Throughout : (ℕ → Type 0) → List Run → Type 0
-Throughout P rs = (k : ℕ) → k < length rs → P k
-
--- the first run that is out of form stands at k
-pub record FirstBad (year : ℕ) (rs : List Run) (k : ℕ) : Type 0 where
-  pub there : k < length rs
-  pub before : (j : ℕ) → j < k → InForm year rs j
-  pub bad : InForm year rs k → ⊥
+-- where the first run stands that is out of form, if there is one
+abbrev pub first_bad : ℕ → List Run → Option ℕ
+first_bad year rs = position (λ k. not (in_form year rs k)) (range_with_len 0 (length rs))
 
 -- the hours of all runs
 abbrev pub hours : List Run → ℕ
 hours rs = sum_by (λ r. r.len) rs
 
--- the runs have at least 5 per cent of the year's hours
-abbrev pub LeastShare : ℕ → List Run → Type 0
-LeastShare year rs = year ≤ 20 * hours rs
+-- the runs have at least 5 and at most 10 per cent of the year's hours
+abbrev pub right_share : ℕ → List Run → Bool
+right_share year rs = nat_le year (20 * hours rs) && nat_le (10 * hours rs) year
 
--- the runs have at most 10 per cent of the year's hours
-abbrev pub MostShare : ℕ → List Run → Type 0
-MostShare year rs = 10 * hours rs ≤ year
-
-abbrev pub RightShare : ℕ → List Run → Type 0
-RightShare year rs = LeastShare year rs × MostShare year rs
+-- what every calendar keeps: its year, the number of its runs, each of them and their share are in form
+pub record IsInForm (c : Calendar) : Type 0 where
+  pub year : is_year c.year_hours ≡ true
+  pub few : length c.runs ≤ 366
+  pub formed : (k : ℕ) → k < length c.runs → in_form c.year_hours c.runs k ≡ true
+  pub share : right_share c.year_hours c.runs ≡ true

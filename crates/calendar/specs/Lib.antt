@@ -1,5 +1,7 @@
 pub mod Runs
+pub mod Calendar
 pub mod Form
+pub mod Judged
 pub mod Faults
 pub mod Months
 pub mod Stress

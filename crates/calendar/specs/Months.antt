@@ -1,4 +1,4 @@
--- The months of a year: Gregorian, with a February of 29 days where the year has 8,784 hours. Assumes nothing.
+-- The months of a year: Gregorian, with a February of 29 days where the year has 8,784 hours.
 use Rattle.std.specs.Prelude.{ℕ, ◌-◌, ◌*◌, cond, List, [], ◌∷◌, take, sum, ◌==◌}
 use Rattle.calendar.specs.Runs.{span}
 

@@ -1,4 +1,4 @@
--- What `src/run.rt` cites: a run of hours. Assumes nothing.
+-- What `src/run.rt` cites: a run of hours.
 use Rattle.std.specs.Prelude.{ℕ, ◌+◌, ◌-◌, min, max, Bool, ◌&&◌, List, nat_le, nat_lt}
 use Rattle.std.specs.List.{range_with_len}
 use Rattle.calendar.specs.declared.run.Run.{Run}

@@ -1,4 +1,4 @@
--- What `src/year/walk.rt` cites: where a walk through a month's stress hours stands. Assumes nothing.
+-- What `src/year/walk.rt` cites: where a walk through a month's stress hours stands.
 use Rattle.std.specs.Prelude.{◌≡◌, ℕ, List, [], ◌∷◌, ◌++◌, Option, MatchOption}
 use Rattle.std.specs.List.{flat_map}
 use Rattle.std.specs.Slice.Iter.{iter_rest}

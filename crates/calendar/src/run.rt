@@ -5,7 +5,7 @@ ghost use Rattle.calendar.specs.Runs.{ends, covers, part_hours};
 use std::ops::Range;
 
 /// Hours of the year that follow one another.
-#[derive(Clone, Copy, PartialEq, Eq, Debug)]
+#[derive(Clone, Copy, Default, PartialEq, Eq, Debug)]
 pub struct Run {
     /// The first hour, counted from 0.
     pub first: u16,

@@ -1,8 +1,10 @@
-//! The calendar's type. Its ghost fields are the facts that every calendar keeps, one each.
-ghost use Rattle.std.specs.Prelude.{◌≡◌, ◌≤◌, take};
-ghost use Rattle.calendar.specs.Form.{YearHours, Throughout, Lasts, Within, Apart, LeastShare, MostShare};
+//! The calendar: clauses see its hours and its runs, and it keeps what every calendar keeps.
+ghost use Rattle.std.specs.Prelude.{◌≡◌};
+ghost use Rattle.calendar.specs.Form.{IsInForm};
 
 use crate::run::Run;
+use arrayvec::ArrayVec;
+use std::marker::Model;
 
 mod filling;
 mod form;
@@ -22,25 +24,28 @@ pub const LEAP_YEAR: u32 = 8_784;
 pub const MOST_RUNS: usize = 366;
 
 /// The hours of one delivery year, numbered from 0 in winter time, and its runs of stress hours.
-#[derive(Clone, Copy)]
+#[derive(Drop)]
 pub struct Calendar {
     year_hours: u32,
-    // The first `count` are the calendar's runs; what stands behind them means nothing.
-    runs: [Run; MOST_RUNS],
-    count: usize,
-    ghost year: { YearHours year_hours },
-    ghost few: { count ≤ 366 },
-    ghost lasting: { Throughout (Lasts (take count runs)) (take count runs) },
-    ghost within: { Throughout (Within year_hours (take count runs)) (take count runs) },
-    ghost apart: { Throughout (Apart (take count runs)) (take count runs) },
-    ghost least: { LeastShare year_hours (take count runs) },
-    ghost most: { MostShare year_hours (take count runs) },
+    runs: ArrayVec<Run, MOST_RUNS>,
+}
+
+impl Model for Calendar {
+    ghost use Rattle.calendar.specs.Calendar.{Calendar as Year};
+    ghost use Rattle.calendar.specs.Form.{IsInForm};
+
+    ghost Value = { Year };
+
+    ghost view = { λ c. record { year_hours = c.year_hours; runs = c.runs.items } };
+
+    ghost invariant = { λ c. IsInForm (record { year_hours = c.year_hours; runs = c.runs.items }) };
 }
 
 impl Calendar {
     /// The hours of the year.
     pub fn year_hours(&self) -> u32
-        ensures { result ≡ self.now.year_hours }
+        ensures value { result ≡ self.now.year_hours }
+        ensures in_form { IsInForm self.now }
     {
         self.year_hours
     }

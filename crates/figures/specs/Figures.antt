@@ -1,10 +1,10 @@
--- The worked figures of the rules: one list, and what it is for each of them to hold. Serves src/lib.rt. Assumes nothing.
-use Rattle.std.specs.Prelude.{◌≡◌, ℕ, Bool, true, false, List, [], ◌∷◌, length, Some, codes}
-use Rattle.calendar.specs.declared.fault.CalendarFault.{CalendarFault}
+-- The worked figures of the rules: one list, and what it is for each of them to hold. Serves src/lib.rt.
+use Rattle.std.specs.Prelude.{◌≡◌, ℕ, Bool, true, false, List, [], ◌∷◌, length, Some, Ok, Err, codes}
 use Rattle.calendar.specs.declared.fault.CalendarFault.TheVariants.{Share}
 use Rattle.calendar.specs.declared.fault.CalendarFault.TheVariants.{Run}
 use Rattle.calendar.specs.Faults as calendar
-use Rattle.calendar.specs.Filling.{RefusedFor}
+use Rattle.calendar.specs.Judged.{judged}
+use Rattle.calendar.specs.Filling.{fill_rows}
 use Rattle.metering.specs.declared.fault.MeteringFault.TheVariants.{Test}
 use Rattle.metering.specs.Fault as metering
 use Rattle.metering.specs.Testing.{failed}
@@ -29,6 +29,8 @@ pub data Figure : Type 0 where
   refused : (year hours : ℕ) → Figure
   -- such a year is refused for nothing
   passes : (year hours : ℕ) → Figure
+  -- such a year, with these runs, is refused for the form of the run of this number
+  misplaced : (year : ℕ) (firsts lengths : List ℕ) (place : ℕ) → Figure
   -- modules, each of its installed kW and its coefficient in thousandths, have so much firm power under an access
   firm : (modules : List Module) (access kw : ℕ) → Figure
   -- a test hour with this energy ordered and delivered failed, or did not
@@ -48,8 +50,9 @@ module_of kw part = record { installed = kw; coefficient = part }
 
 -- what it is for a figure to hold
 abbrev pub Holds : Figure → Type 0
-Holds (refused year hours) = RefusedFor year (0 ∷ []) (hours ∷ []) Share
-Holds (passes year hours) = (f : CalendarFault) → RefusedFor year (0 ∷ []) (hours ∷ []) f → ⊥
+Holds (refused year hours) = judged {A = Unit {0}} (fill_rows year (0 ∷ []) (hours ∷ [])) tt ≡ Err Share
+Holds (passes year hours) = judged {A = Unit {0}} (fill_rows year (0 ∷ []) (hours ∷ [])) tt ≡ Ok tt
+Holds (misplaced year firsts lengths place) = judged {A = Unit {0}} (fill_rows year firsts lengths) tt ≡ Err (Run place)
 Holds (firm modules access kw) = firm_power modules (length modules) access ≡ kw
 Holds (test ordered delivered is_failed) = failed (record { ordered = ordered; delivered = delivered }) ≡ is_failed
 Holds (earn kw price month cents) = amount kw price month ≡ cents
@@ -68,6 +71,7 @@ figures =
     ∷ passes 8_784 440
     ∷ passes 8_784 878
     ∷ refused 8_784 879
+    ∷ misplaced 8_760 (0 ∷ 400 ∷ 800 ∷ []) (400 ∷ 400 ∷ 400 ∷ []) 2
     ∷ firm (module_of 1 500 ∷ module_of 1 500 ∷ []) 5 1
     ∷ firm (module_of 100_000 900 ∷ module_of 20_000 251 ∷ []) 95_000 95_000
     ∷ test 1_000 950 true

@@ -3,9 +3,8 @@
 use Rattle.std.proofs.Common.{◌≡◌, ℕ, ◌+◌, ◌<◌, ◌≤◌, Bool, true, false, eqb, List, [], ◌∷◌, length, count_by, sym, refl, ap, ◌∙◌, subst, arith}
 use Rattle.std.proofs.lemmas.List.Sums.{sum_by-cons}
 use Rattle.std.proofs.lemmas.Bool.{false≢true}
-use Rattle.calendar.specs.declared.year.Calendar.{Calendar}
-use Rattle.calendar.specs.Stress.{runs_of}
-use Rattle.calendar.specs.Filling.{given_runs}
+use Rattle.calendar.specs.Calendar.{Calendar}
+use Rattle.calendar.specs.Filling.{given_year}
 use Rattle.ledger.specs.declared.course.Call.TheVariants as call
 use Rattle.ledger.specs.declared.kept.Ledger.{Ledger}
 use Rattle.ledger.specs.declared.state.Book.{Book}
@@ -81,16 +80,16 @@ module _ (l : Ledger) (h : List Act) (old : Simulates h l.book) where
   abbrev At : Stage → Type 0
   At = CourseBy h b.calendar (reports b.month)
 
-  pub opened_simulates : (year : ℕ) (firsts lengths : List ℕ) (c : Calendar) → unopened b.stage ≡ true → (c.year_hours ≡ year) × (runs_of c ≡ given_runs firsts lengths) → Simulates (opened year firsts lengths ∷ h) (opening.opened b c)
-  opened_simulates year firsts lengths c not_yet filled =
+  pub opened_simulates : (year : ℕ) (firsts lengths : List ℕ) → unopened b.stage ≡ true → Simulates (opened year firsts lengths ∷ h) (opening.opened b year firsts lengths)
+  opened_simulates year firsts lengths not_yet =
       let is = stage_unopened b.stage not_yet in
       let start = subst At is old.course in
-      subst (λ x. TradesBy x b.trade → RegistersBy x b.register → Simulates (opened year firsts lengths ∷ x) (opening.opened b c)) (sym start.0) (λ trades registers. record {
-        calendar = filled;
+      subst (λ x. TradesBy x b.trade → RegistersBy x b.register → Simulates (opened year firsts lengths ∷ x) (opening.opened b year firsts lengths)) (sym start.0) (λ trades registers. record {
+        calendar = refl;
         numbers = tt;
         trades = trades;
         registers = registers;
-        course = subst (λ s. CourseBy (opened year firsts lengths ∷ []) c (reports b.month) (moved call.Open s)) (sym is) (refl, refl, refl, start.1);
+        course = subst (λ s. CourseBy (opened year firsts lengths ∷ []) (given_year year firsts lengths) (reports b.month) (moved call.Open s)) (sym is) (refl, refl, refl, start.1);
         lines = λ m f from to _ _. absurd (omega (arith, from, to));
         cut_offs = λ m from to. absurd (omega (arith, from, to));
         charges = tt;

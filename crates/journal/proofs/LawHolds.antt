@@ -5,7 +5,7 @@ use mathlib.Core.Path.{fun_ext}
 use Rattle.std.specs.List.{range_with_len}
 use Rattle.std.proofs.lemmas.List.Sums.{sum-map}
 use Rattle.std.proofs.lemmas.List.FromFn.{get_or-map-range_with_len}
-use Rattle.calendar.specs.declared.year.Calendar.{Calendar}
+use Rattle.calendar.specs.Calendar.{Calendar}
 use Rattle.metering.specs.declared.measuring.Measured.{Measured}
 use Rattle.ledger.specs.declared.kept.Ledger.{Ledger}
 use Rattle.ledger.specs.declared.state.Book.{Book}
@@ -119,5 +119,5 @@ pub law : (j : Journal) (l : Ledger) → Recorded j l → Law j l
 law j l recorded = holds (acts j) l (simulated recorded)
 
 pub points : {j : Journal} {l : Ledger} → Recorded j l → Points j
-points (made l is new) = (l, made l is new, law [] l (made l is new))
+points (made l is) = (l, made l is, law [] l (made l is))
 points (noted j e l after before allowed) = ((after, noted j e l after before allowed, law (e ∷ j) after (noted j e l after before allowed)), points before)

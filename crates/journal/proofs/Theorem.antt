@@ -1,12 +1,9 @@
 -- The law of the journal, by induction on its entries: every book that a journal is recorded of has what the journal's acts
--- say. Assumes nothing.
+-- say.
 use Rattle.std.proofs.Common.{◌≡◌, ℕ, ◌+◌, Bool, true, false, ◌&&◌, eqb, ltb, List, [], ◌∷◌, length, None, Ok, Err, sum, Result, sym, refl, ap, ◌∙◌, subst, inl, inr, arith}
 use Rattle.std.proofs.lemmas.Bool.{cases_Bool, cond-true, cond-false, eqb-false, ltb-false, and_cases}
 use Rattle.metering.specs.declared.measuring.Measured.{Measured}
 use Rattle.metering.specs.declared.fault.MeteringFault.{MeteringFault}
-use Rattle.calendar.specs.declared.year.Calendar.{Calendar}
-use Rattle.calendar.specs.Stress.{runs_of}
-use Rattle.calendar.specs.Filling.{given_runs}
 use Rattle.sharing.specs.declared.rows.Row.{Row}
 use Rattle.sharing.specs.declared.fault.SharingFault.TheVariants.{NoWeight}
 use Rattle.sharing.specs.Rows.{mwhs}
@@ -22,8 +19,8 @@ use Rattle.ledger.specs.declared.state.Phase.TheVariants.{Metering, Claims}
 use Rattle.ledger.specs.Judged.{Rows, judged, ruled}
 use Rattle.ledger.specs.Form.{month_of}
 use Rattle.ledger.specs.Making.{blank}
-use Rattle.ledger.specs.Course.{unopened}
-use Rattle.ledger.specs.Opening.{opened, Opens}
+use Rattle.ledger.specs.Course.{course}
+use Rattle.ledger.specs.Opening.{opened, year_answer}
 use Rattle.ledger.specs.Switching.{switch_rows}
 use Rattle.ledger.specs.Registering.{register_rows, firm_power, registered as registered-in}
 use Rattle.ledger.specs.Awarding.{award_rows, awarded as awarded-in}
@@ -36,30 +33,17 @@ use Rattle.ledger.specs.Advancing.{advance_rows}
 use Rattle.ledger.specs.Closing.{close_rows}
 use Rattle.ledger.specs.Claiming.{claim_of}
 use Rattle.ledger.specs.Entries.{Rule, Reported, Entry, Journal, opening, registering, switching, awarding, ceding, cutting, reporting, advancing, claiming, dismissing, upholding, closing}
-use Rattle.ledger.specs.Runs.{measured_by, shared_by, Allowed, IsNew, Recorded, made, noted}
+use Rattle.ledger.specs.Runs.{measured_by, shared_by, Allowed, Recorded, made, noted}
 use Rattle.ledger.proofs.JudgedRows.{accepted_by, passed_through}
 use Rattle.ledger.proofs.Places.{same_at}
 use Rattle.ledger.proofs.Traded.{awardable, cedable}
 use Rattle.journal.specs.Acts.{Act, acts, registered, awarded}
-use Rattle.journal.proofs.Tables.{registrable, switchable, award_stage, cede_stage, cut_stage, reportable, answerable, advanceable, closable}
+use Rattle.journal.proofs.Tables.{openable, registrable, switchable, award_stage, cede_stage, cut_stage, reportable, answerable, advanceable, closable}
 use Rattle.journal.proofs.Simulation.{Simulates}
 use Rattle.journal.proofs.Acting.{opened_simulates, registered_simulates, switched_simulates, awarded_simulates, ceded_simulates}
 use Rattle.journal.proofs.Metering.{cut_simulates, reported_simulates, claims_simulate, advanced_simulates}
 use Rattle.journal.proofs.Charging.{charged_by_rule}
 use Rattle.journal.proofs.Closing.{closed_simulates}
-
--- an accepted opening is the first, and leaves the book with the calendar that was given
-opening_accepted : (first : Bool) (b b' : Book) (year : ℕ) (firsts lengths : List ℕ) (u : Unit {0}) → Opens first b year firsts lengths (Ok u) b' → (first ≡ true) × ((b'.calendar.year_hours ≡ year) × (runs_of b'.calendar ≡ given_runs firsts lengths)) × (b' ≡ opened b b'.calendar)
-opening_accepted true b b' year firsts lengths u opens = (refl, (opens.0.4, opens.0.5), opens.1)
-opening_accepted false b b' year firsts lengths u opens = let refused = opens.0 in let never : ◌≡◌ {A = ℕ} 0 1 = cc in absurd (omega arith)
-
--- a refused opening leaves the book as it stood
-opening_refused : (first : Bool) (b b' : Book) (year : ℕ) (firsts lengths : List ℕ) (e : LedgerFault) → Opens first b year firsts lengths (Err e) b' → b' ≡ b
-opening_refused true b b' year firsts lengths (fault.Calendar f) opens = opens.1
-opening_refused true b b' year firsts lengths (fault.Metering f) opens = absurd opens
-opening_refused true b b' year firsts lengths (fault.Sharing f) opens = absurd opens
-opening_refused true b b' year firsts lengths (fault.Own r) opens = absurd opens
-opening_refused false b b' year firsts lengths e opens = opens.1
 
 -- a report that is taken was measured
 taken_measured : (m : Result Measured MeteringFault) (u : Unit {0}) → taken m ≡ Ok u → (v : Measured) × (m ≡ Ok v)
@@ -162,9 +146,9 @@ module _ (l : Ledger) (j : Journal) (old : Simulates (acts j) l.book) where
   -- one entry more: a refused one leaves the book, an accepted one does what it says
   step : (e : Entry) (b' : Book) → Allowed b e b' → Simulates (acts (e ∷ j)) b'
   step (opening year firsts lengths (Ok u)) b' t =
-      let ok = opening_accepted (unopened b.stage) b b' year firsts lengths u t in
-      same_book _ _ b' ok.2 (opened_simulates l (acts j) old year firsts lengths b'.calendar ok.0 ok.1)
-  step (opening year firsts lengths (Err e)) b' t = same_book _ b b' (opening_refused (unopened b.stage) b b' year firsts lengths e t) old
+      let ok = passed (course call.Open b.stage) (year_answer year firsts lengths) u t.0 in
+      same_book _ (opened b year firsts lengths) b' t.1 (opened_simulates l (acts j) old year firsts lengths (openable b.stage ok.0))
+  step (opening year firsts lengths (Err e)) b' t = same_book _ b b' t.1 old
   step (registering letter modules count access (Ok f)) b' t = registering_step letter modules count access f b' t
   step (registering letter modules count access (Err e)) b' t = same_book _ b b' t.1 old
   step (switching f on (Ok u)) b' t = switching_step f on u b' t
@@ -189,9 +173,9 @@ module _ (l : Ledger) (j : Journal) (old : Simulates (acts j) l.book) where
   step (closing rule rows (Err e) left) b' t = same_book _ b b' t.3 old
 
 -- a ledger as it is made, and no acts
-blank_simulates : (c : Calendar) → IsNew c → Simulates [] (blank c)
-blank_simulates c new = record {
-  calendar = new;
+blank_simulates : Simulates [] blank
+blank_simulates = record {
+  calendar = refl;
   numbers = tt;
   trades = record {
     count = refl;
@@ -215,5 +199,5 @@ blank_simulates c new = record {
 }
 
 pub simulated : {j : Journal} {l : Ledger} → Recorded j l → Simulates (acts j) l.book
-simulated (made l is new) = subst (Simulates []) (sym is) (blank_simulates l.book.calendar new)
+simulated (made l is) = subst (Simulates []) (sym is) blank_simulates
 simulated (noted j e l after before allowed) = step l j (simulated before) e after.book allowed

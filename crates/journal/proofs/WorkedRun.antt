@@ -1,7 +1,7 @@
 -- The worked run, recorded step by step by computing what each call answers and leaves. Assumes nothing.
 use Rattle.std.proofs.Common.{ℕ, ◌-◌, true, [], ◌∷◌, Ok, refl, ◌∙◌, arith, lit≤}
 use Rattle.std.proofs.lemmas.List.{length-set}
-use Rattle.calendar.specs.declared.year.Calendar.{Calendar}
+use Rattle.calendar.specs.Filling.{given_year}
 use Rattle.calendar.specs.Months.{first_months}
 use Rattle.sharing.specs.RunningLaws.{running_lawful}
 use Rattle.sharing.specs.RemainderLaws.{remainder_lawful}
@@ -20,24 +20,17 @@ use Rattle.ledger.specs.Reporting.{put_report}
 use Rattle.ledger.specs.Rights.{rights_of}
 use Rattle.ledger.specs.Booking.{month_lines}
 use Rattle.ledger.specs.Closing as closing
-use Rattle.ledger.specs.Runs.{Allowed, Recorded, made, noted}
+use Rattle.ledger.specs.Runs.{Recorded, made, noted}
 use Rattle.ledger.proofs.Blank.{blank_kept}
 use Rattle.ledger.proofs.Traded.{awardable, cedable}
 use Rattle.ledger.proofs.After.{ledger_of, filled_kept, registered_kept, switched_kept, awarded_kept, ceded_kept, staged_kept, month_kept, closed_kept}
 use Rattle.journal.specs.Worked.{month_one, journal}
-use Rattle.journal.proofs.WorkedCalendar.{only_one, one_run}
-
-abbrev new_calendar : Calendar
-new_calendar = one_run 0 744 (lit≤ tt) (lit≤ tt) (lit≤ tt) (lit≤ tt)
-
-abbrev calendar : Calendar
-calendar = one_run 1_415 438 (lit≤ tt) (lit≤ tt) (lit≤ tt) (lit≤ tt)
 
 abbrev fresh : Ledger
-fresh = ledger_of (blank new_calendar) (blank_kept new_calendar)
+fresh = ledger_of blank blank_kept
 
 abbrev opened : Ledger
-opened = ledger_of (opening.opened fresh.book calendar) (filled_kept fresh calendar (Month 1 Trading) (lit≤ tt, lit≤ tt))
+opened = ledger_of (opening.opened fresh.book 8_760 (1_415 ∷ []) (438 ∷ [])) (filled_kept fresh (given_year 8_760 (1_415 ∷ []) (438 ∷ [])) (Month 1 Trading) (lit≤ tt, lit≤ tt))
 
 -- the facilities, and the first switched on
 abbrev one : Ledger
@@ -62,9 +55,6 @@ claims_one = ledger_of (with_stage cut_one.book (Month 1 Claims)) (staged_kept c
 abbrev closed_one : Ledger
 closed_one = ledger_of (closing.closed claims_one.book) (closed_kept claims_one)
 
-opening_allowed : Allowed fresh.book (entry.opening 8_760 (1_415 ∷ []) (438 ∷ []) (Ok tt)) opened.book
-opening_allowed = (((λ other. absurd (other refl)), (refl, lit≤ tt), only_one _ (lit≤ tt, lit≤ tt, λ before. absurd (omega (arith, before))), (lit≤ tt, lit≤ tt), refl, refl), refl)
-
 month_one_recorded : Recorded month_one closed_one
 unfolding month_lines rights_of first_months
 month_one_recorded =
@@ -74,7 +64,7 @@ month_one_recorded =
     (noted _ _ on won
     (noted _ _ on on
     (noted _ _ two on
-    (noted _ _ one two (noted _ _ opened one (noted _ _ fresh opened (made fresh refl (refl, refl)) opening_allowed) (refl, refl)) (refl, refl))
+    (noted _ _ one two (noted _ _ opened one (noted _ _ fresh opened (made fresh refl) (refl, refl)) (refl, refl)) (refl, refl))
     (refl, refl))
     (refl, refl))
     (refl, refl))

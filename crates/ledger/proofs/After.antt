@@ -1,7 +1,7 @@
 -- The ledger that an accepted call leaves: its book keeps what every book keeps. Assumes nothing.
 use Rattle.std.proofs.Common.{◌≡◌, ℕ, ◌-◌, ◌<◌, ◌≤◌, Bool, false, List, length, refl, ◌∙◌, arith, lit≤}
 use Rattle.std.proofs.lemmas.List.{length-set, length_push}
-use Rattle.calendar.specs.declared.year.Calendar.{Calendar}
+use Rattle.calendar.specs.Calendar.{Calendar}
 use Rattle.ledger.specs.declared.kept.Ledger.{Ledger}
 use Rattle.ledger.specs.declared.state.Book.{Book}
 use Rattle.ledger.specs.declared.state.Filed.{Filed}

@@ -1,3 +1,4 @@
+pub mod FromFn
 pub mod JudgedRows
 pub mod Places
 pub mod Keeping

@@ -1,6 +1,6 @@
 -- A book with one part changed. Assumes nothing.
 use Rattle.std.specs.Prelude.{List}
-use Rattle.calendar.specs.declared.year.Calendar.{Calendar}
+use Rattle.calendar.specs.Calendar.{Calendar}
 use Rattle.ledger.specs.declared.state.Stage.{Stage}
 use Rattle.ledger.specs.declared.state.Filed.{Filed}
 use Rattle.ledger.specs.declared.state.Book.{Book}

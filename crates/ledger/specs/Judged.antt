@@ -1,5 +1,6 @@
--- How a call's table of refusals is read: from the top, the first row that applies. Assumes nothing.
+-- How a call's table of refusals is read: from the top, the first row that applies.
 use Rattle.std.specs.Prelude.{ℕ, Bool, cond, ◌&&◌, List, [], ◌∷◌, Ok, Err, Result, nat_le}
+pub use Rattle.calendar.specs.Judged.{judged, kept_or}
 use Rattle.ledger.specs.declared.refusal.Refusal.{Refusal}
 use Rattle.ledger.specs.declared.fault.LedgerFault.{LedgerFault}
 use Rattle.ledger.specs.declared.fault.LedgerFault.TheVariants as fault
@@ -7,11 +8,6 @@ use Rattle.ledger.specs.declared.fault.LedgerFault.TheVariants as fault
 -- conditions, each with the refusal that it leads to
 abbrev pub Rows : Type 0
 Rows = List (Bool × Refusal)
-
--- the refusal of the first row that applies, or acceptance with its value
-abbrev pub judged : {A E : Type 0} → List (Bool × E) → A → Result A E
-judged [] a = Ok a
-judged (r ∷ rs) a = cond r.0 (Err r.1) (judged rs a)
 
 -- the fault of the first row that applies, or the answer that is given when none does
 abbrev pub ruled : {A : Type 0} → Rows → Result A LedgerFault → Result A LedgerFault
@@ -22,11 +18,6 @@ ruled (r ∷ rs) answer = cond r.0 (Err (fault.Own r.1)) (ruled rs answer)
 abbrev pub plainly : {A B E : Type 0} → (A → B) → Result A E → Result B E
 plainly plain (Ok a) = Ok (plain a)
 plainly plain (Err e) = Err e
-
--- what stands after a call: changed where it was accepted, and as it stood where it was refused
-abbrev pub kept_or : {A B E : Type 0} → Result A E → B → B → B
-kept_or (Ok _) changed stood = changed
-kept_or (Err _) changed stood = stood
 
 -- whether the number n, counted from 1, was given out, of `count` numbers
 abbrev pub given_out : ℕ → ℕ → Bool

@@ -1,6 +1,6 @@
--- A ledger as it is made. Serves src/making.rt. Assumes nothing.
+-- A ledger as it is made. Serves src/making.rt.
 use Rattle.std.specs.Prelude.{List, [], replicate}
-use Rattle.calendar.specs.declared.year.Calendar.{Calendar}
+use Rattle.calendar.specs.Filling.{new_calendar}
 use Rattle.ledger.specs.declared.state.Stage.TheVariants.{Unopened}
 use Rattle.ledger.specs.declared.state.Filed.{Filed}
 use Rattle.ledger.specs.declared.state.Line.{Line}
@@ -15,10 +15,10 @@ new_month = replicate 64 nothing_filed
 abbrev pub no_line : Line
 no_line = record { right = 0; penalty = 0 }
 
--- a book with no entry in it, over a calendar
-abbrev pub blank : Calendar → Book
-blank c = record {
-  calendar = c;
+-- a book with no entry in it, over a new calendar
+abbrev pub blank : Book
+blank = record {
+  calendar = new_calendar;
   stage = Unopened;
   register = record { items = [] };
   trade = record { items = [] };

@@ -1,8 +1,5 @@
--- Runs of calls: which journals are recorded of which ledgers. Serves every call that may change a ledger. Assumes nothing.
+-- Runs of calls: which journals are recorded of which ledgers. Serves every call that may change a ledger.
 use Rattle.std.specs.Prelude.{◌≡◌, ℕ, ◌+◌, List, [], ◌∷◌, length, Ok, Result}
-use Rattle.calendar.specs.declared.year.Calendar.{Calendar}
-use Rattle.calendar.specs.Stress.{runs_of}
-use Rattle.calendar.specs.Filling.{january}
 use Rattle.metering.specs.declared.measuring.Measured.{Measured}
 use Rattle.metering.specs.declared.fault.MeteringFault.{MeteringFault}
 use Rattle.sharing.specs.declared.rows.Row.{Row}
@@ -11,9 +8,9 @@ use Rattle.ledger.specs.declared.state.Book.{Book}
 use Rattle.ledger.specs.declared.kept.Ledger.{Ledger}
 use Rattle.ledger.specs.declared.course.Call.TheVariants as call
 use Rattle.ledger.specs.Judged.{ruled, kept_or}
-use Rattle.ledger.specs.Course.{unopened}
+use Rattle.ledger.specs.Course.{course}
 use Rattle.ledger.specs.Making.{blank}
-use Rattle.ledger.specs.Opening.{Opens}
+use Rattle.ledger.specs.Opening.{year_answer, opened}
 use Rattle.ledger.specs.Registering.{register_rows, firm_power, registered}
 use Rattle.ledger.specs.Switching.{switch_rows, switched}
 use Rattle.ledger.specs.Awarding.{award_rows, awarded}
@@ -41,7 +38,8 @@ charged_by b rule rows = charged rows (rule.charges (total_now b) (mwhs rows))
 
 -- What a call's contract allows, of the book before it, of its entry, and of the book after it.
 abbrev pub Allowed : Book → Entry → Book → Type 0
-Allowed b (opening year firsts lengths r) b' = Opens (unopened b.stage) b year firsts lengths r b'
+Allowed b (opening year firsts lengths r) b' =
+    (r ≡ ruled (course call.Open b.stage) (year_answer year firsts lengths)) × (b' ≡ kept_or r (opened b year firsts lengths) b)
 Allowed b (registering letter modules count access r) b' =
     (r ≡ ruled (register_rows b letter modules count access) (Ok (length b.register.items + 1)))
     × (b' ≡ kept_or r (registered b letter (firm_power modules count access)) b)
@@ -66,12 +64,8 @@ Allowed b (closing rule rows r left) b' =
     Keeps rule × (r ≡ ruled (close_rows b rows) (shared_by b rule rows))
     × (left ≡ kept_or r (charged_by b rule rows) rows) × (b' ≡ kept_or r (closed b) b)
 
--- the calendar is a new one
-abbrev pub IsNew : Calendar → Type 0
-IsNew c = (c.year_hours ≡ 8760) × (runs_of c ≡ january)
-
 -- A journal is recorded of a ledger: the empty one of a ledger as it is made, and, with the entry of one more call on top,
 -- of the ledger that this call left.
 pub data Recorded : Journal → Ledger → Type 0 where
-  made : (l : Ledger) → l.book ≡ blank l.book.calendar → IsNew l.book.calendar → Recorded [] l
+  made : (l : Ledger) → l.book ≡ blank → Recorded [] l
   noted : (j : Journal) (e : Entry) (l after : Ledger) → Recorded j l → Allowed l.book e after.book → Recorded (e ∷ j) after

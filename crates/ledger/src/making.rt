@@ -1,7 +1,5 @@
 //! A new ledger.
 ghost use Rattle.std.specs.Prelude.{◌≡◌, []};
-ghost use Rattle.calendar.specs.Stress.{runs_of};
-ghost use Rattle.calendar.specs.Filling.{january};
 ghost use Rattle.ledger.specs.Making.{blank};
 ghost use Rattle.ledger.specs.Runs.{Recorded};
 
@@ -20,8 +18,7 @@ pub(crate) const NEW_MONTH: Month = [Filed {
 impl Ledger {
     /// A ledger that is not opened yet.
     pub fn new() -> Ledger
-        ensures book { result.book ≡ blank result.book.calendar }
-        ensures calendar { (result.book.calendar.year_hours ≡ 8760) × (runs_of result.book.calendar ≡ january) }
+        ensures book { result.book ≡ blank }
         ensures recorded { Recorded [] result }
     {
         Ledger { book: blank_book() }
@@ -30,8 +27,7 @@ impl Ledger {
 
 /// A book with no entry in it.
 fn blank_book() -> Book
-    ensures book { result ≡ blank result.calendar }
-    ensures calendar { (result.calendar.year_hours ≡ 8760) × (runs_of result.calendar ≡ january) }
+    ensures { result ≡ blank }
 {
     Book {
         calendar: Calendar::new(),

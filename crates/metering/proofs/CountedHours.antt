@@ -3,7 +3,7 @@ use Rattle.std.proofs.Common.{◌≡◌, ℕ, zero, suc, ◌+◌, ◌-◌, ◌<�
 use Rattle.std.specs.List.{range_with_len}
 use Rattle.std.proofs.lemmas.List.Sums.{sum_by-cons, length-filter}
 use Rattle.std.proofs.lemmas.Bool.Decides.{nat_tests}
-use Rattle.calendar.specs.declared.year.Calendar.{Calendar}
+use Rattle.calendar.specs.Calendar.{Calendar}
 use Rattle.calendar.specs.Months.{month_begins, month_ends, month_hours}
 use Rattle.calendar.specs.Stress.{is_stress, stress_hours}
 use Rattle.metering.specs.declared.report.Energy.{Energy}

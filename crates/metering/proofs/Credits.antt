@@ -4,7 +4,7 @@ use Rattle.std.specs.List.{All, zip}
 use Rattle.std.proofs.lemmas.List.Sums.{sum_by-le, length-filter, count_by-le-length}
 use Rattle.std.proofs.lemmas.Bool.Decides.{nat_tests}
 use Rattle.std.proofs.lemmas.Slice.Zip.{length-zip}
-use Rattle.calendar.specs.declared.year.Calendar.{Calendar}
+use Rattle.calendar.specs.Calendar.{Calendar}
 use Rattle.calendar.specs.Months.{month_hours}
 use Rattle.calendar.specs.Stress.{is_stress, stress_hours}
 use Rattle.metering.specs.Measuring.{counted_hours, credited_energy, counting_with}

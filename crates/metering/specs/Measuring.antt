@@ -1,7 +1,7 @@
 -- What a report comes to: counted hours and credited energy. Serves src/measuring.rt. Assumes nothing.
 use Rattle.std.specs.Prelude.{ℕ, Bool, true, cond, not, ◌&&◌, ◌||◌, List, length, Some, None, Ok, Err, sum_by, count_by, filter, Option, Result, ◌==◌}
 use Rattle.std.specs.List.{zip, range_with_len}
-use Rattle.calendar.specs.declared.year.Calendar.{Calendar}
+use Rattle.calendar.specs.Calendar.{Calendar}
 use Rattle.calendar.specs.Months.{month_begins, month_ends, month_hours}
 use Rattle.calendar.specs.Stress.{is_stress, stress_hours}
 use Rattle.metering.specs.declared.report.Energy.{Energy}

@@ -1,34 +1,27 @@
 //! How a calendar is made, and how it is filled with another year.
-ghost use Rattle.std.specs.Prelude.{◌≡◌, ◌≤◌, length, take, slice_index_or, MatchResult};
-ghost use Rattle.calendar.specs.Stress.{runs_of};
-ghost use Rattle.calendar.specs.Filling.{january, given_runs, RefusedFor, Accepted, Filled};
+ghost use Rattle.std.specs.Prelude.{◌≡◌, ◌≤◌, ◌⊎◌, length, OnOk};
+ghost use Rattle.calendar.specs.Judged.{judged, kept_or};
+ghost use Rattle.calendar.specs.Filling.{new_calendar, given_runs, given_year, fill_rows};
 
 use super::form::{first_bad, right_share};
 use super::{COMMON_YEAR, Calendar, LEAP_YEAR, MOST_RUNS};
 use crate::fault::CalendarFault;
 use crate::run::Run;
-use std::array;
+use arrayvec::ArrayVec;
 
 /// The hours of January.
-const JANUARY: u16 = 744;
-/// What stands behind the runs of a calendar.
-const NO_RUN: Run = Run { first: 0, len: 0 };
+const JANUARY: Run = Run { first: 0, len: 744 };
 
 impl Calendar {
     /// A common year whose stress hours are those of January.
     pub fn new() -> Calendar
-        ensures year { result.year_hours ≡ 8760 }
-        ensures runs { runs_of result ≡ january }
+        ensures { result ≡ new_calendar }
     {
-        let mut runs = [NO_RUN; MOST_RUNS];
-        runs[0] = Run {
-            first: 0,
-            len: JANUARY,
-        };
+        let mut runs = ArrayVec::new();
+        runs.push(JANUARY);
         Calendar {
             year_hours: COMMON_YEAR,
             runs,
-            count: 1,
         }
     }
 
@@ -40,54 +33,49 @@ impl Calendar {
         firsts: &[u16],
         lengths: &[u16],
     ) -> Result<(), CalendarFault>
-        ensures { Filled self.old year_hours firsts.now lengths.now result self.new }
+        ensures answer { result ≡ judged (fill_rows year_hours firsts.now lengths.now) tt }
+        ensures after { self.new ≡ kept_or result (given_year year_hours firsts.now lengths.now) self.old }
+        ensures years { OnOk result ((year_hours ≡ «COMMON_YEAR») ⊎ (year_hours ≡ «LEAP_YEAR»)) }
+        ensures most { OnOk result (length firsts.now ≤ «MOST_RUNS») }
     {
-        *self = judged(year_hours, firsts, lengths)?;
+        *self = year_of(year_hours, firsts, lengths)?;
         Ok(())
     }
 }
 
 /// The calendar of a year that may be taken, or the first fault that the year has.
-fn judged(year_hours: u32, firsts: &[u16], lengths: &[u16]) -> Result<Calendar, CalendarFault>
-    ensures { MatchResult result (λ new. Accepted year_hours firsts.now lengths.now new) (λ f. RefusedFor year_hours firsts.now lengths.now f) }
+fn year_of(year_hours: u32, firsts: &[u16], lengths: &[u16]) -> Result<Calendar, CalendarFault>
+    ensures { result ≡ judged (fill_rows year_hours firsts.now lengths.now) (given_year year_hours firsts.now lengths.now) }
 {
     if year_hours != COMMON_YEAR && year_hours != LEAP_YEAR {
         return Err(CalendarFault::YearHours);
     }
-    let count = firsts.len();
-    if count > MOST_RUNS || count != lengths.len() {
+    if firsts.len() > MOST_RUNS || firsts.len() != lengths.len() {
         return Err(CalendarFault::Sizes);
     }
     let runs = given_runs(firsts, lengths);
-    if let Some(k) = first_bad(year_hours, &runs[0..count]) {
+    if let Some(k) = first_bad(year_hours, runs.as_slice()) {
         let place = k as u32 + 1;
         return Err(CalendarFault::Run { place });
     }
-    if !right_share(year_hours, &runs[0..count]) {
+    if !right_share(year_hours, runs.as_slice()) {
         return Err(CalendarFault::Share);
     }
-    Ok(Calendar {
-        year_hours,
-        runs,
-        count,
-    })
+    Ok(Calendar { year_hours, runs })
 }
 
-/// The runs that are given, at the front of an array.
-fn given_runs(firsts: &[u16], lengths: &[u16]) -> [Run; MOST_RUNS]
+/// The runs that are given.
+fn given_runs(firsts: &[u16], lengths: &[u16]) -> ArrayVec<Run, MOST_RUNS>
     requires few { length firsts.now ≤ 366 }
     requires even { length firsts.now ≡ length lengths.now }
-    ensures { take (length firsts.now) result ≡ given_runs firsts.now lengths.now }
+    ensures { result.items ≡ given_runs firsts.now lengths.now }
 {
-    array::from_fn(|k| Run {
-        first: at_or_zero(firsts, k),
-        len: at_or_zero(lengths, k),
-    })
-}
-
-/// The number at a place of a list, and 0 behind it.
-fn at_or_zero(numbers: &[u16], k: usize) -> u16
-    ensures { result ≡ slice_index_or numbers.now k 0 }
-{
-    numbers.get(k).copied().unwrap_or(0)
+    let mut runs = ArrayVec::new();
+    for (k, first) in firsts.iter().enumerate() {
+        runs.push(Run {
+            first: *first,
+            len: lengths[k],
+        });
+    }
+    runs
 }

@@ -1,6 +1,6 @@
 //! Which runs of stress hours a year may have.
-ghost use Rattle.std.specs.Prelude.{◌≡◌, ◌≤◌, length, Decides, MatchOption};
-ghost use Rattle.calendar.specs.Form.{InForm, Throughout, FirstBad, hours, RightShare};
+ghost use Rattle.std.specs.Prelude.{◌≡◌, ◌<◌, ◌≤◌, length, IfSome};
+ghost use Rattle.calendar.specs.Form.{first_bad, hours, right_share};
 
 use crate::run::Run;
 
@@ -11,7 +11,8 @@ const MOST_ONE_IN: u64 = 10;
 
 /// The index of the first run that is out of form.
 pub(super) fn first_bad(year_hours: u32, runs: &[Run]) -> Option<usize>
-    ensures { MatchOption result (Throughout (InForm year_hours runs.now) runs.now) (λ k. FirstBad year_hours runs.now k) }
+    ensures value { result ≡ first_bad year_hours runs.now }
+    ensures inside { IfSome result (λ k. k < length runs.now) }
 {
     // The first hour at which the next run may begin.
     let mut free = 0;
@@ -28,7 +29,7 @@ pub(super) fn first_bad(year_hours: u32, runs: &[Run]) -> Option<usize>
 /// Whether the runs have at least 5 and at most 10 per cent of the year's hours.
 pub(super) fn right_share(year_hours: u32, runs: &[Run]) -> bool
     requires { length runs.now ≤ 366 }
-    ensures { Decides result (RightShare year_hours runs.now) }
+    ensures { result ≡ right_share year_hours runs.now }
 {
     let hours = u64::from(hours_of(runs));
     let year_hours = u64::from(year_hours);

@@ -1,5 +1,5 @@
 //! The months of the year, Gregorian ones: February has a 29th day where the year has 8,784 hours.
-ghost use Rattle.std.specs.Prelude.{◌≡◌, ◌*◌, ◌≤◌, sum};
+ghost use Rattle.std.specs.Prelude.{◌≡◌, ◌*◌, ◌<◌, ◌≤◌, sum};
 ghost use Rattle.calendar.specs.Months.{days, first_months, month_begins, month_ends};
 
 use super::{Calendar, LEAP_YEAR, MONTHS};
@@ -14,6 +14,7 @@ impl Calendar {
     pub fn month_begins(&self, month: u32) -> u32
         ensures value { result ≡ month_begins self.now.year_hours month }
         ensures bound { result ≤ self.now.year_hours }
+        ensures most { result ≤ 8_784 }
     {
         self.first_months(month.saturating_sub(1))
     }
@@ -22,6 +23,7 @@ impl Calendar {
     pub fn month_ends(&self, month: u32) -> u32
         ensures value { result ≡ month_ends self.now.year_hours month }
         ensures bound { result ≤ self.now.year_hours }
+        ensures most { result ≤ 8_784 }
     {
         self.first_months(month)
     }
@@ -31,6 +33,8 @@ impl Calendar {
         ensures begins { result.start ≡ month_begins self.now.year_hours month }
         ensures ends { result.end ≡ month_ends self.now.year_hours month }
         ensures bound { result.end ≤ self.now.year_hours }
+        ensures most { result.end ≤ 8_784 }
+        ensures outside { «MONTHS» < month → result.start ≡ result.end }
     {
         self.month_begins(month)..self.month_ends(month)
     }
@@ -39,6 +43,7 @@ impl Calendar {
     fn first_months(&self, months: u32) -> u32
         ensures value { result ≡ first_months self.now.year_hours months }
         ensures bound { result ≤ self.now.year_hours }
+        ensures most { result ≤ 8_784 }
     {
         let days = self.days();
         let months = MONTHS.min(months as usize);
@@ -47,7 +52,9 @@ impl Calendar {
 
     /// The days of each month.
     fn days(&self) -> [u32; MONTHS]
-        ensures { result ≡ days self.now.year_hours }
+        ensures value { result ≡ days self.now.year_hours }
+        ensures whole { 24 * sum result ≡ self.now.year_hours }
+        ensures most { self.now.year_hours ≤ 8_784 }
     {
         let february = if self.year_hours == LEAP_YEAR { 29 } else { 28 };
         [31, february, 31, 30, 31, 30, 31, 31, 30, 31, 30, 31]

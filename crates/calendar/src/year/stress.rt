@@ -1,7 +1,8 @@
 //! Which hours of the year are stress hours, and how many a month has.
 ghost use Rattle.std.specs.Prelude.{◌≡◌, ◌≤◌, length, sum_by};
 ghost use Rattle.calendar.specs.Runs.{part_hours};
-ghost use Rattle.calendar.specs.Stress.{runs_of, is_stress, stress_hours};
+ghost use Rattle.calendar.specs.Form.{IsInForm};
+ghost use Rattle.calendar.specs.Stress.{is_stress, stress_hours};
 
 use super::Calendar;
 use crate::run::Run;
@@ -10,9 +11,10 @@ use std::ops::Range;
 impl Calendar {
     /// The runs of stress hours.
     pub fn runs(&self) -> &[Run]
-        ensures { result.now ≡ runs_of self.now }
+        ensures value { result.now ≡ self.now.runs }
+        ensures in_form { IsInForm self.now }
     {
-        &self.runs[0..self.count]
+        self.runs.as_slice()
     }
 
     /// Whether an hour is a stress hour.

@@ -7,5 +7,5 @@ pub returns-clause-value : goal.returns-clause-value
 unfolding first_months
 returns-clause-value c =
     c.hours_of.ensures
-    ∙ ap₂ (λ (n : ℕ) (days : List ℕ). 24 * sum (take n days)) c.min-months.ensures c.days-days.ensures
+    ∙ ap₂ (λ (n : ℕ) (days : List ℕ). 24 * sum (take n days)) c.min-months.ensures c.days-days.ensures.value
     ∙ first_months_twelve c.args.self.now.year_hours c.args.months

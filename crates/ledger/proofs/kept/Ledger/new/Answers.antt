@@ -5,7 +5,7 @@ use Rattle.ledger.proofs.Blank.{blank_kept}
 use Rattle.ledger.proofs.kept.Ledger.new.Goals as goal
 
 pub invariant_of-result : goal.invariant_of-result
-invariant_of-result c = subst Kept (sym c.blank_book.ensures.book) (blank_kept c.blank_book.result.calendar)
+invariant_of-result c = subst Kept (sym c.blank_book.ensures) blank_kept
 
 pub returns : goal.returns
-returns c = record { book = c.blank_book.ensures.book; calendar = c.blank_book.ensures.calendar; recorded = made _ c.blank_book.ensures.book c.blank_book.ensures.calendar }
+returns c = record { book = c.blank_book.ensures; recorded = made _ c.blank_book.ensures }
