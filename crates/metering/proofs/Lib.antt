@@ -1,3 +1,3 @@
-pub mod Walking
 pub mod CountedHours
 pub mod Credits
+pub mod FailedRecords

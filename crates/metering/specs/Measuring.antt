@@ -28,6 +28,10 @@ abbrev pub credited_energy : {H : Type 0} → (H → ℕ → ℕ) → ℕ → (�
 credited_energy credit k fails hours records =
     sum_by (λ p. credit p.1 k) (filter (λ p. not (fails p.0)) (zip hours records))
 
+-- the credits, under a commitment of k kW, of the records that are not marked as of a failed hour
+abbrev pub unfailed_energy : {H : Type 0} → (H → ℕ → ℕ) → ℕ → List Bool → List H → ℕ
+unfailed_energy credit k failed records = sum_by (λ p. credit p.0 k) (filter (λ p. not p.1) (zip records failed))
+
 -- whether the test, if there is one, is in order for the month m
 abbrev pub test_in_order : ℕ → ℕ → Calendar → ℕ → Option Test → Bool
 test_in_order shortest longest c m None = true

@@ -1,11 +1,20 @@
 //! What a report comes to: counted hours and credited energy.
-ghost use Rattle.std.specs.Prelude.{◌≡◌, ◌+◌, ◌*◌, ◌≤◌, length, IfOk, IfSome, OnOk};
+ghost use Rattle.std.specs.Prelude.{◌≡◌, ◌+◌, ◌*◌, ◌≤◌, length, take, map, IfOk, IfSome, OnOk};
 ghost use Rattle.calendar.specs.Stress.{stress_hours};
-ghost use Rattle.metering.specs.Testing.{failed_in};
-ghost use Rattle.metering.specs.Measuring.{credited_energy, failed_outside, counting_with, measuring};
+ghost use Rattle.metering.specs.Testing.{failed_at, failed_in};
+ghost use Rattle.metering.specs.Measuring.{credited_energy, unfailed_energy, failed_outside, counting_with, measuring};
 
 use crate::{Kind, MeteringFault, Report, Test};
 use calendar::Calendar;
+
+/// The most records of a report: a year has no more stress hours.
+const MOST_RECORDS: usize = 878;
+
+/// Which records of a report are of failed hours, by their index.
+type FailedRecords = [bool; MOST_RECORDS];
+
+/// No record is of a failed hour.
+const NONE_FAILED: FailedRecords = [false; MOST_RECORDS];
 
 /// What a month of a facility comes to: how many hours count, and the energy credited in them, in kWh.
 #[derive(Clone, Copy, PartialEq, Eq, Debug)]
@@ -39,7 +48,7 @@ pub fn measure<K: Kind>(
         return Err(MeteringFault::Records);
     }
     let counted = report.counted(calendar, month)?;
-    let credited = report.credited(calendar, month, commitment);
+    let credited = report.credited_in(calendar, month, commitment);
     Ok(Measured { counted, credited })
 }
 
@@ -68,25 +77,44 @@ impl<K: Kind> Report<'_, '_, K> {
     }
 
     /// The energy credited under a commitment in the stress hours of the month, by their records.
-    fn credited(&self, calendar: &Calendar, month: u32, commitment: u32) -> u64
+    fn credited_in(&self, calendar: &Calendar, month: u32, commitment: u32) -> u64
         requires one_each { length self.now.hours.now ≡ length (stress_hours calendar.now month) }
-        requires few { length self.now.hours.now ≤ 8784 }
+        requires few { length self.now.hours.now ≤ 878 }
         ensures { result ≡ credited_energy K.credit commitment (failed_in self.now.test) (stress_hours calendar.now month) self.now.hours.now }
     {
-        calendar
-            .stress_hours(month)
-            .zip(self.hours)
-            .filter(|(hour, _)| !self.failed_in(*hour))
-            .map(|(_, record)| u64::from(K::credit(record, commitment)))
-            .sum()
+        match &self.test {
+            None => self.credited(&NONE_FAILED, commitment),
+            Some(test) => self.credited(&failed_records(calendar, month, test), commitment),
+        }
     }
 
-    /// Whether this hour of the year is a failed hour of the test, if there is one.
-    fn failed_in(&self, hour: u32) -> bool
-        ensures { result ≡ failed_in self.now.test hour }
+    /// The energy credited under a commitment by the records that are not of failed hours.
+    fn credited(&self, failed: &FailedRecords, commitment: u32) -> u64
+        requires { length self.now.hours.now ≤ 878 }
+        ensures { result ≡ unfailed_energy K.credit commitment failed.now self.now.hours.now }
     {
-        self.test.is_some_and(|test| test.failed_at(hour))
+        let mut credited = 0;
+        for (i, record) in self.hours.iter().enumerate() {
+            if failed[i] {
+                continue;
+            }
+            credited += u64::from(K::credit(record, commitment));
+        }
+        credited
     }
+}
+
+/// Which records of a month are of hours that failed in the test.
+fn failed_records(calendar: &Calendar, month: u32, test: &Test) -> FailedRecords
+    requires { length (stress_hours calendar.now month) ≤ 878 }
+    ensures { take (length (stress_hours calendar.now month)) result
+        ≡ map (failed_at test.now.first test.now.hours.now) (stress_hours calendar.now month) }
+{
+    let mut failed = NONE_FAILED;
+    for (i, hour) in calendar.stress_hours(month).enumerate() {
+        failed[i] = test.failed_at(hour);
+    }
+    failed
 }
 
 /// How many hours of a test failed and are no stress hours.

@@ -9,7 +9,7 @@ returns-clause-within g c =
     let counted = sym c.counted.ensures ∙ c.in_ok-counted.was in
     omega (
       arith,
-      c.credited-credited.ensures,
+      c.credited_in-credited.ensures,
       credited_within kind.SHORTEST kind.LONGEST kind.credit c.args.commitment (λ hour. g.met.K.Kind.bounded hour c.args.commitment) c.args.calendar.now c.args.month c.in_ok-counted.counted report.test report.hours.now counted,
     )
 
