@@ -30,7 +30,7 @@ pub struct Report {
     pub test: Option<Test>,
 }
 
-/// A house rule of sharing.
+/// A built-in rule of sharing.
 #[derive(Clone, Copy, PartialEq, Eq, Debug)]
 pub enum Rule {
     Running,

@@ -8,7 +8,7 @@ const MOST_ROWS: u32 = 1_024;
 
 const MOST_MWH: u32 = 40_000_000;
 
-/// A house rule.
+/// A built-in rule.
 pub fn rule(dice: &mut Dice) -> Rule {
     match dice.one_in(2) {
         true => Rule::Running,

@@ -20,7 +20,7 @@ pub fn trade(dice: &mut Dice, notes: &Notes, ledger: &Ledger) -> Call {
     }
 }
 
-/// Registering a facility, mostly of a house kind and with figures that are right.
+/// Registering a facility, mostly of a built-in kind and with figures that are right.
 pub fn registering(dice: &mut Dice) -> Call {
     let mut letter = dice.pick(&[84, 83, 68]);
     if dice.one_in(10) {

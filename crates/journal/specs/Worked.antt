@@ -30,7 +30,7 @@ modules =
 abbrev pub buyers : ℕ → ℕ → ℕ → List Row
 buyers x y z = record { id = 1; mwh = 1; charge = x } ∷ record { id = 2; mwh = 1; charge = y } ∷ record { id = 3; mwh = 1; charge = z } ∷ []
 
--- the two house rules
+-- the two built-in rules
 abbrev pub running : Rule
 running = record { weights = λ total ms. ms; charges = λ total ms. split total (sum ms) ms }
 

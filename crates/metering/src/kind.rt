@@ -1,4 +1,4 @@
-//! What a kind of facility is, and the three house kinds.
+//! What a kind of facility is, and the three built-in kinds.
 ghost use Rattle.std.specs.Prelude.{◌≡◌, ℕ, ◌≤◌};
 ghost use Rattle.metering.specs.Credit.{thermal_credit, storage_credit, demand_credit};
 ghost use Rattle.std.proofs.Common.{rules};

@@ -1,4 +1,4 @@
-//! How a month's total is shared among the buyers: their rows, what any sharing rule keeps, and the house rules.
+//! How a month's total is shared among the buyers: their rows, what any sharing rule keeps, and the built-in rules.
 
 #![tactic(auto)]
 

@@ -1,4 +1,4 @@
-//! Tests of the house rules of sharing.
+//! Tests of the built-in rules of sharing.
 
 #![tactic(auto)]
 

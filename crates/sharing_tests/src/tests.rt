@@ -1,4 +1,4 @@
-//! The house rules on examples, and the rule of the largest remainder against a plain computation by sorting.
+//! The built-in rules on examples, and the rule of the largest remainder against a plain computation by sorting.
 use sharing::{MOST_ROWS, Remainder, Row, Running, RunningSplit, SharingRule, total_mwh};
 use std::alloc::{AllocError, Global};
 use std::process::Abort;

@@ -10,7 +10,7 @@ use ledger::Refusal;
 use sharing::{Remainder, Row, Running, SharingFault};
 use std::fmt;
 
-/// A house rule.
+/// A built-in rule.
 #[derive(Clone, Copy)]
 pub enum Rule {
     Running,

@@ -1,6 +1,6 @@
 //! A delivery year, kept in a ledger and printed: its stress hours, month by month its lines, its total and what the
 //! buyers pay, with the refusals met on the way, and the year's totals. Before it the worked figures, which are proved,
-//! the worked January, which is checked, and the worked run; after it the two house rules side by side.
+//! the worked January, which is checked, and the worked run; after it the two built-in rules side by side.
 
 #![tactic(auto)]
 

@@ -1,4 +1,4 @@
-//! What buyers pay by the two house rules, side by side.
+//! What buyers pay by the two built-in rules, side by side.
 ghost use Rattle.sharing.specs.Rows.{mwhs};
 ghost use Rattle.sharing.specs.Rule.{Shareable};
 

@@ -1,4 +1,4 @@
-//! Sharing a month's total among the buyers' rows, by either rule of the house.
+//! Sharing a month's total among the buyers' rows, by either built-in rule.
 
 use super::refusals::{Reason, Setback};
 use crate::call::{Refusal, Rule};
