@@ -1,4 +1,4 @@
--- The numbers, places and texts of the refusals of a filling.
+-- What a refusal of a filling says, and how a refusal is printed. Serves src/fault.rt.
 use Rattle.std.specs.Prelude.{ℕ, List, ◌++◌, codes}
 use Rattle.std.specs.Fmt.{decimal}
 use Rattle.calendar.specs.declared.fault.CalendarFault.{CalendarFault}
@@ -13,11 +13,17 @@ number fault.Share = 5
 
 -- the run that is refused, counted from 1, or 0
 abbrev pub place : CalendarFault → ℕ
-place fault.YearHours = 0
-place fault.Sizes = 0
 place (fault.Run p) = p
-place fault.Share = 0
+place _ = 0
 
--- what is printed of a refusal, as `4, layer calendar, place 2`
+-- the layer that refused, by its name
+abbrev pub layer : CalendarFault → List ℕ
+layer _ = codes "calendar"
+
+-- how a refusal of any layer is printed, as "18, layer metering, place 2"
+abbrev pub refusal_text : (number : ℕ) (layer : List ℕ) (place : ℕ) → List ℕ
+refusal_text n name p = decimal n ++ codes ", layer " ++ name ++ codes ", place " ++ decimal p
+
+-- the refusal as it is printed
 abbrev pub text : CalendarFault → List ℕ
-text f = decimal (number f) ++ codes ", layer calendar, place " ++ decimal (place f)
+text f = refusal_text (number f) (layer f) (place f)

@@ -1,6 +1,6 @@
 //! Why a calendar is not filled.
 ghost use Rattle.std.specs.Prelude.{◌≡◌};
-ghost use Rattle.calendar.specs.Faults.{number, place};
+ghost use Rattle.calendar.specs.Faults.{number, place, layer};
 
 use std::error::Error;
 use std::fmt;
@@ -44,6 +44,13 @@ impl CalendarFault {
             _ => 0,
         }
     }
+
+    /// The name of the layer that refused.
+    pub fn layer(self) -> &'static str
+        ensures { result.now ≡ layer self }
+    {
+        "calendar"
+    }
 }
 
 /// Writes the refusal's number, its layer and its place.
@@ -55,8 +62,9 @@ impl fmt::Display for CalendarFault {
 
     fn fmt<W: fmt::Write>(&self, f: &mut fmt::Formatter<W>) -> fmt::Result {
         let number = self.number();
+        let layer = self.layer();
         let place = self.place();
-        write!(f, "{number}, layer calendar, place {place}")
+        write!(f, "{number}, layer {layer}, place {place}")
     }
 }
 

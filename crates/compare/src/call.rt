@@ -91,21 +91,11 @@ pub enum Call {
     },
 }
 
-/// The layer that refuses.
-#[derive(Clone, Copy, PartialEq, Eq, Debug)]
-pub enum Layer {
-    Calendar,
-    Metering,
-    Sharing,
-    Statement,
-    Ledger,
-}
-
-/// A refusal: its number, its layer, and its place or 0.
+/// A refusal: its number, the name of its layer, and its place or 0.
 #[derive(Clone, Copy, PartialEq, Eq, Debug)]
 pub struct Refusal {
     pub number: u32,
-    pub layer: Layer,
+    pub layer: &'static str,
     pub place: u32,
 }
 

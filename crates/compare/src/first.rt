@@ -1,5 +1,5 @@
 //! The library, played by calls as data.
-use crate::call::{Answer, Call, Kind, Layer, Module, Refusal, Report, Rule, Test};
+use crate::call::{Answer, Call, Kind, Module, Refusal, Report, Rule, Test};
 use ledger::{Ledger, LedgerFault};
 use metering::{Demand, DemandHour, Energy, Storage, StorageHour, Thermal, ThermalHour};
 use sharing::{Remainder, Row, Running};
@@ -222,15 +222,9 @@ fn module(module: Module) -> ledger::Module {
 
 /// What a fault of the library says.
 pub fn refusal(fault: LedgerFault) -> Refusal {
-    let layer = match fault.layer() {
-        ledger::Layer::Calendar => Layer::Calendar,
-        ledger::Layer::Metering => Layer::Metering,
-        ledger::Layer::Sharing => Layer::Sharing,
-        ledger::Layer::Ledger => Layer::Ledger,
-    };
     Refusal {
         number: fault.number(),
-        layer,
+        layer: fault.layer(),
         place: fault.place(),
     }
 }

@@ -1,5 +1,5 @@
 //! Statements of months and of any lines, written and read by both.
-use crate::call::{Layer, Refusal};
+use crate::call::Refusal;
 use crate::comparison::Comparison;
 use crate::counts::more;
 use crate::dice::Dice;
@@ -130,7 +130,7 @@ fn read_first(heap: Global, bytes: &[u8], room: usize) -> Result<Found, AllocErr
 fn refusal(fault: StatementFault) -> Refusal {
     Refusal {
         number: fault.number(),
-        layer: Layer::Statement,
+        layer: fault.layer(),
         place: fault.place(),
     }
 }

@@ -20,7 +20,7 @@ use Rattle.ledger.specs.Registering.{firm_power}
 use Rattle.ledger.specs.Amounts.{amount}
 use Rattle.ledger.specs.declared.fault.LedgerFault.TheVariants as fault
 use Rattle.ledger.specs.declared.refusal.Refusal.TheVariants.{OverFirm}
-use Rattle.ledger.specs.Fault.{fault_text}
+use Rattle.ledger.specs.Fault as ledger
 use Rattle.statement.specs.declared.fault.StatementFault.TheVariants.{Limits}
 use Rattle.statement.specs.Fault as statement
 
@@ -86,6 +86,6 @@ figures =
     ∷ printed (metering.text (Test (Some 2))) (codes "18, layer metering, place 2")
     ∷ printed (sharing.text NoWeight) (codes "23, layer sharing, place 0")
     ∷ printed (statement.text Limits) (codes "26, layer statement, place 0")
-    ∷ printed (fault_text (fault.Calendar (Run 2))) (codes "4, layer calendar, place 2")
-    ∷ printed (fault_text (fault.Own OverFirm)) (codes "15, layer ledger, place 0")
+    ∷ printed (ledger.text (fault.Calendar (Run 2))) (codes "4, layer calendar, place 2")
+    ∷ printed (ledger.text (fault.Own OverFirm)) (codes "15, layer ledger, place 0")
     ∷ []

@@ -1,41 +1,34 @@
--- The number, place and layer of a refused call's fault, and how it is written. Serves src/fault.rt. Assumes nothing.
-use Rattle.std.specs.Prelude.{ℕ, List, ◌++◌, codes}
-use Rattle.std.specs.Fmt.{decimal}
+-- What the fault of a refused call says, and how it is printed. Serves src/fault.rt. Assumes nothing.
+use Rattle.std.specs.Prelude.{ℕ, List, codes}
 use Rattle.calendar.specs.Faults as calendar
+use Rattle.calendar.specs.Faults.{refusal_text}
 use Rattle.metering.specs.Fault as metering
 use Rattle.sharing.specs.Fault as sharing
+use Rattle.ledger.specs.Refusals as own
 use Rattle.ledger.specs.declared.fault.LedgerFault.{LedgerFault}
 use Rattle.ledger.specs.declared.fault.LedgerFault.TheVariants as fault
-use Rattle.ledger.specs.declared.fault.Layer.{Layer}
-use Rattle.ledger.specs.declared.fault.Layer.TheVariants as layer
-use Rattle.ledger.specs.Refusals.{number}
 
-abbrev pub fault_number : LedgerFault → ℕ
-fault_number (fault.Calendar f) = calendar.number f
-fault_number (fault.Metering f) = metering.number f
-fault_number (fault.Sharing f) = sharing.number f
-fault_number (fault.Own r) = number r
+-- the refusal's number
+abbrev pub number : LedgerFault → ℕ
+number (fault.Calendar f) = calendar.number f
+number (fault.Metering f) = metering.number f
+number (fault.Sharing f) = sharing.number f
+number (fault.Own r) = own.number r
 
-abbrev pub fault_place : LedgerFault → ℕ
-fault_place (fault.Calendar f) = calendar.place f
-fault_place (fault.Metering f) = metering.place f
-fault_place (fault.Sharing f) = sharing.place f
-fault_place (fault.Own r) = 0
+-- its place, counted from 1, or 0
+abbrev pub place : LedgerFault → ℕ
+place (fault.Calendar f) = calendar.place f
+place (fault.Metering f) = metering.place f
+place (fault.Sharing f) = sharing.place f
+place (fault.Own r) = 0
 
-abbrev pub fault_layer : LedgerFault → Layer
-fault_layer (fault.Calendar f) = layer.Calendar
-fault_layer (fault.Metering f) = layer.Metering
-fault_layer (fault.Sharing f) = layer.Sharing
-fault_layer (fault.Own r) = layer.Ledger
+-- the layer that refused, by its name
+abbrev pub layer : LedgerFault → List ℕ
+layer (fault.Calendar f) = calendar.layer f
+layer (fault.Metering f) = metering.layer f
+layer (fault.Sharing f) = sharing.layer f
+layer (fault.Own r) = codes "ledger"
 
--- a layer's name
-abbrev pub layer_text : Layer → List ℕ
-layer_text layer.Calendar = codes "calendar"
-layer_text layer.Metering = codes "metering"
-layer_text layer.Sharing = codes "sharing"
-layer_text layer.Ledger = codes "ledger"
-
--- a fault as it is written: its number, its layer and its place
-abbrev pub fault_text : LedgerFault → List ℕ
-fault_text f =
-    decimal (fault_number f) ++ codes ", layer " ++ layer_text (fault_layer f) ++ codes ", place " ++ decimal (fault_place f)
+-- the refusal as it is printed
+abbrev pub text : LedgerFault → List ℕ
+text f = refusal_text (number f) (layer f) (place f)

@@ -1,6 +1,6 @@
 //! A refused call's fault: the lower layer's, carried whole, or the ledger's own.
 ghost use Rattle.std.specs.Prelude.{◌≡◌, Some};
-ghost use Rattle.ledger.specs.Fault.{fault_number, fault_place, fault_layer, layer_text, fault_text};
+ghost use Rattle.ledger.specs.Fault.{number, place, layer, text};
 ghost use Rattle.ledger.specs.declared.fault.LedgerFault.TheVariants as ledger;
 
 use crate::Refusal;
@@ -23,19 +23,10 @@ pub enum LedgerFault {
     Own(Refusal),
 }
 
-/// The layer that refused.
-#[derive(Clone, Copy, PartialEq, Eq, Debug)]
-pub enum Layer {
-    Calendar,
-    Metering,
-    Sharing,
-    Ledger,
-}
-
 impl LedgerFault {
     /// The refusal's number.
     pub fn number(self) -> u32
-        ensures { result ≡ fault_number self }
+        ensures { result ≡ number self }
     {
         match self {
             LedgerFault::Calendar(fault) => fault.number(),
@@ -47,7 +38,7 @@ impl LedgerFault {
 
     /// The refusal's place, counted from 1; 0 where it has none.
     pub fn place(self) -> u32
-        ensures { result ≡ fault_place self }
+        ensures { result ≡ place self }
     {
         match self {
             LedgerFault::Calendar(fault) => fault.place(),
@@ -57,15 +48,15 @@ impl LedgerFault {
         }
     }
 
-    /// The layer that refused.
-    pub fn layer(self) -> Layer
-        ensures { result ≡ fault_layer self }
+    /// The name of the layer that refused.
+    pub fn layer(self) -> &'static str
+        ensures { result.now ≡ layer self }
     {
         match self {
-            LedgerFault::Calendar(_) => Layer::Calendar,
-            LedgerFault::Metering(_) => Layer::Metering,
-            LedgerFault::Sharing(_) => Layer::Sharing,
-            LedgerFault::Own(_) => Layer::Ledger,
+            LedgerFault::Calendar(fault) => fault.layer(),
+            LedgerFault::Metering(fault) => fault.layer(),
+            LedgerFault::Sharing(fault) => fault.layer(),
+            LedgerFault::Own(_) => "ledger",
         }
     }
 }
@@ -102,23 +93,9 @@ impl From<Refusal> for LedgerFault {
     }
 }
 
-/// Writes the name of its crate.
-impl fmt::Display for Layer {
-    ghost output = { λ layer. Some (layer_text layer) };
-
-    fn fmt<W: fmt::Write>(&self, f: &mut fmt::Formatter<W>) -> fmt::Result {
-        f.write_str(match self {
-            Layer::Calendar => "calendar",
-            Layer::Metering => "metering",
-            Layer::Sharing => "sharing",
-            Layer::Ledger => "ledger",
-        })
-    }
-}
-
 /// Writes the refusal's number, its layer and its place.
 impl fmt::Display for LedgerFault {
-    ghost output = { λ fault. Some (fault_text fault) };
+    ghost output = { λ fault. Some (text fault) };
 
     fn fmt<W: fmt::Write>(&self, f: &mut fmt::Formatter<W>) -> fmt::Result {
         let number = self.number();

@@ -31,7 +31,7 @@ mod switching;
 mod upholding;
 
 pub use calendar::MONTHS;
-pub use fault::{Layer, LedgerFault};
+pub use fault::LedgerFault;
 pub use kept::Ledger;
 pub use refusal::Refusal;
 pub use registering::{MOST_MODULES, Module};

@@ -1,6 +1,6 @@
 //! The ledger's answers, each held against the one that a call is to get. A call is named by its number, or by its month
 //! and its number there.
-use ledger::{Layer, LedgerFault};
+use ledger::LedgerFault;
 use std::fmt::Debug;
 use std::process::Abort;
 use std::test::Fail;
@@ -27,7 +27,7 @@ pub fn refused<T: Drop>(
     call: impl Debug + Drop,
     answer: Result<T, LedgerFault>,
     number: u32,
-    layer: Layer,
+    layer: &str,
     place: u32,
 ) -> Result<(), Fail> {
     match answer {
@@ -50,5 +50,5 @@ pub fn barred<T: Drop>(
     answer: Result<T, LedgerFault>,
     number: u32,
 ) -> Result<(), Fail> {
-    refused(rt, call, answer, number, Layer::Ledger, 0)
+    refused(rt, call, answer, number, "ledger", 0)
 }

@@ -3,7 +3,7 @@ use crate::answers::{accepted, barred, refused};
 use crate::buyers::{BEFORE, buyers, charged, idle, left, row};
 use crate::year::{Year, line};
 use calendar::LEAP_YEAR;
-use ledger::{Layer, MOST_MODULES, Module};
+use ledger::{MOST_MODULES, Module};
 use sharing::{Remainder, Row, Running};
 use std::process::Abort;
 use std::test::Fail;
@@ -33,11 +33,11 @@ impl<A: Abort> Year<'_, A> {
     fn open(&mut self) -> Result<(), Fail> {
         barred(self.rt, 1, self.ledger.line(1, 1), 1)?;
         let answer = self.ledger.open(8_761, &[0], &[744]);
-        refused(self.rt, 2, answer, 3, Layer::Calendar, 0)?;
+        refused(self.rt, 2, answer, 3, "calendar", 0)?;
         let answer = self.ledger.open(LEAP_YEAR, &[700, 800], &LENGTHS);
-        refused(self.rt, 3, answer, 4, Layer::Calendar, 2)?;
+        refused(self.rt, 3, answer, 4, "calendar", 2)?;
         let answer = self.ledger.open(LEAP_YEAR, &FIRSTS, &[100, 339]);
-        refused(self.rt, 4, answer, 5, Layer::Calendar, 0)?;
+        refused(self.rt, 4, answer, 5, "calendar", 0)?;
         let answer = self.ledger.open(LEAP_YEAR, &FIRSTS, &LENGTHS);
         accepted(self.rt, 5, answer, ())?;
         let answer = self.ledger.open(LEAP_YEAR, &FIRSTS, &LENGTHS);
@@ -95,7 +95,7 @@ impl<A: Abort> Year<'_, A> {
     fn advance(&mut self) -> Result<(), Fail> {
         let mut rows = idle(BEFORE);
         let answer = self.ledger.advance(&Remainder, &mut rows);
-        refused(self.rt, 30, answer, 23, Layer::Sharing, 0)?;
+        refused(self.rt, 30, answer, 23, "sharing", 0)?;
         left(self.rt, 30, &rows, &idle(BEFORE));
         let huge = [row(1, 40_000_000, BEFORE), row(2, 1, BEFORE)];
         let mut rows = huge;
@@ -112,14 +112,14 @@ impl<A: Abort> Year<'_, A> {
     fn claim(&mut self) -> Result<(), Fail> {
         let mut none: [Row; 0] = [];
         let answer = self.ledger.close(&Running, &mut none);
-        refused(self.rt, 33, answer, 23, Layer::Sharing, 0)?;
+        refused(self.rt, 33, answer, 23, "sharing", 0)?;
         barred(self.rt, 34, self.uphold(600), 20)?;
         accepted(self.rt, 35, self.ledger.claim(2), ())?;
         barred(self.rt, 36, self.ledger.claim(2), 19)?;
         let mut rows = buyers();
         barred(self.rt, 37, self.ledger.close(&Remainder, &mut rows), 21)?;
         left(self.rt, 37, &rows, &buyers());
-        refused(self.rt, 38, self.uphold(742), 18, Layer::Metering, 0)?;
+        refused(self.rt, 38, self.uphold(742), 18, "metering", 0)?;
         accepted(self.rt, 39, self.uphold(600), ())?;
         barred(self.rt, 40, self.ledger.dismiss(2), 20)?;
         barred(self.rt, 41, self.ledger.claim(2), 19)

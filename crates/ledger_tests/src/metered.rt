@@ -1,7 +1,7 @@
 //! The reports of January, whose stress hours are the 44 from 700 to 743.
 use crate::answers::{accepted, barred, refused};
 use crate::year::Year;
-use ledger::{Layer, LedgerFault};
+use ledger::LedgerFault;
 use metering::{Demand, DemandHour, Energy, Kind, Report, Storage, StorageHour, Test};
 use std::process::Abort;
 use std::test::Fail;
@@ -33,12 +33,12 @@ impl<A: Abort> Year<'_, A> {
         let answer = self.report::<Demand>(&[AS_CONSUMER; 44], untested());
         barred(self.rt, 25, answer, 16)?;
         let answer = self.report::<Storage>(&[STORED; 43], tested(700, &[pair(0, 0)]));
-        refused(self.rt, 26, answer, 17, Layer::Metering, 0)?;
+        refused(self.rt, 26, answer, 17, "metering", 0)?;
         let pairs = [pair(1_000, 1_000), pair(0, 0)];
         let answer = self.report::<Storage>(&[STORED; 44], tested(700, &pairs));
-        refused(self.rt, 27, answer, 18, Layer::Metering, 2)?;
+        refused(self.rt, 27, answer, 18, "metering", 2)?;
         let answer = self.report::<Storage>(&[STORED; 44], tested(744, &[pair(1_000, 1_000)]));
-        refused(self.rt, 28, answer, 18, Layer::Metering, 0)?;
+        refused(self.rt, 28, answer, 18, "metering", 0)?;
         let answer = self.report::<Storage>(&[STORED; 44], tested(700, &[pair(1_000, 950)]));
         accepted(self.rt, 29, answer, ())
     }

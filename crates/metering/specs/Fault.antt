@@ -1,17 +1,23 @@
--- The number, the place and the text of a refused report. Serves src/fault.rt. Assumes nothing.
-use Rattle.std.specs.Prelude.{ℕ, List, ◌++◌, codes, unwrap_or}
-use Rattle.std.specs.Fmt.{decimal}
+-- What a refusal of a report says, and how it is printed. Serves src/fault.rt. Assumes nothing.
+use Rattle.std.specs.Prelude.{ℕ, List, codes, unwrap_or}
+use Rattle.calendar.specs.Faults.{refusal_text}
 use Rattle.metering.specs.declared.fault.MeteringFault.{MeteringFault}
 use Rattle.metering.specs.declared.fault.MeteringFault.TheVariants as fault
 
+-- the refusal's number
 abbrev pub number : MeteringFault → ℕ
 number fault.Records = 17
 number (fault.Test p) = 18
 
+-- the hour of the test that is refused, counted from 1, or 0
 abbrev pub place : MeteringFault → ℕ
-place fault.Records = 0
 place (fault.Test p) = unwrap_or p 0
+place _ = 0
 
--- a refusal as it is printed, as "18, layer metering, place 2"
+-- the layer that refused, by its name
+abbrev pub layer : MeteringFault → List ℕ
+layer _ = codes "metering"
+
+-- the refusal as it is printed
 abbrev pub text : MeteringFault → List ℕ
-text fault = decimal (number fault) ++ (codes ", layer metering, place " ++ decimal (place fault))
+text f = refusal_text (number f) (layer f) (place f)

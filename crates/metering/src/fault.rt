@@ -1,6 +1,6 @@
 //! Why a report was not taken.
 ghost use Rattle.std.specs.Prelude.{◌≡◌, Some};
-ghost use Rattle.metering.specs.Fault.{number, place, text};
+ghost use Rattle.metering.specs.Fault.{number, place, layer, text};
 
 use std::error::Error;
 use std::fmt;
@@ -8,7 +8,7 @@ use std::fmt;
 /// A reason to refuse a report, the first that applies.
 #[derive(Clone, Copy, PartialEq, Eq, Debug)]
 pub enum MeteringFault {
-    /// There is not one record for each stress hour of the month.
+    /// The report has more records than the month has stress hours, or fewer.
     Records,
     /// The test is too short or too long, does not lie in the month, or has an hour whose ordered energy is outside its
     /// limits.
@@ -38,6 +38,13 @@ impl MeteringFault {
             MeteringFault::Test { place } => place.unwrap_or(0),
         }
     }
+
+    /// The name of the layer that refused.
+    pub fn layer(self) -> &'static str
+        ensures { result.now ≡ layer self }
+    {
+        "metering"
+    }
 }
 
 /// Writes the refusal's number, its layer and its place.
@@ -46,8 +53,9 @@ impl fmt::Display for MeteringFault {
 
     fn fmt<W: fmt::Write>(&self, f: &mut fmt::Formatter<W>) -> fmt::Result {
         let number = self.number();
+        let layer = self.layer();
         let place = self.place();
-        write!(f, "{number}, layer metering, place {place}")
+        write!(f, "{number}, layer {layer}, place {place}")
     }
 }
 

@@ -1,6 +1,6 @@
 //! Why a total was not shared.
 ghost use Rattle.std.specs.Prelude.{◌≡◌};
-ghost use Rattle.sharing.specs.Fault.{number, place};
+ghost use Rattle.sharing.specs.Fault.{number, place, layer};
 
 use std::error::Error;
 use std::fmt;
@@ -28,6 +28,13 @@ impl SharingFault {
             SharingFault::NoWeight => 0,
         }
     }
+
+    /// The name of the layer that refused.
+    pub fn layer(self) -> &'static str
+        ensures { result.now ≡ layer self }
+    {
+        "sharing"
+    }
 }
 
 /// Writes the refusal's number, its layer and its place.
@@ -39,8 +46,9 @@ impl fmt::Display for SharingFault {
 
     fn fmt<W: fmt::Write>(&self, f: &mut fmt::Formatter<W>) -> fmt::Result {
         let number = self.number();
+        let layer = self.layer();
         let place = self.place();
-        write!(f, "{number}, layer sharing, place {place}")
+        write!(f, "{number}, layer {layer}, place {place}")
     }
 }
 

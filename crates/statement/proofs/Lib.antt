@@ -4,3 +4,4 @@ pub mod Filling
 pub mod Distinct
 pub mod Exact
 pub mod Booked
+pub mod Longest

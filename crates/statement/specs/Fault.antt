@@ -1,9 +1,10 @@
--- The number and the place of a statement's refusal, and its text. Serves src/fault.rt. Assumes nothing.
-use Rattle.std.specs.Prelude.{ℕ, List, ◌++◌, codes}
-use Rattle.std.specs.Fmt.{decimal}
+-- What a refusal of a statement says, and how it is printed. Serves src/fault.rt. Assumes nothing.
+use Rattle.std.specs.Prelude.{ℕ, List, codes}
+use Rattle.calendar.specs.Faults.{refusal_text}
 use Rattle.statement.specs.declared.fault.StatementFault.{StatementFault}
 use Rattle.statement.specs.declared.fault.StatementFault.TheVariants.{Length, Limits, Buffer}
 
+-- the refusal's number
 abbrev pub number : StatementFault → ℕ
 number Length = 25
 number Limits = 26
@@ -11,8 +12,12 @@ number Buffer = 27
 
 -- no byte and no line is to blame
 abbrev pub place : StatementFault → ℕ
-place f = 0
+place _ = 0
 
--- what is printed of a refusal: `26, layer statement, place 0`
+-- the layer that refused, by its name
+abbrev pub layer : StatementFault → List ℕ
+layer _ = codes "statement"
+
+-- the refusal as it is printed
 abbrev pub text : StatementFault → List ℕ
-text f = decimal (number f) ++ codes ", layer statement, place " ++ decimal (place f)
+text f = refusal_text (number f) (layer f) (place f)

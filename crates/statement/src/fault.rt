@@ -1,6 +1,6 @@
 //! Why a statement was not written, or not read.
 ghost use Rattle.std.specs.Prelude.{◌≡◌};
-ghost use Rattle.statement.specs.Fault.{number, place};
+ghost use Rattle.statement.specs.Fault.{number, place, layer};
 
 use std::error::Error;
 use std::fmt;
@@ -32,6 +32,13 @@ impl StatementFault {
             StatementFault::Length | StatementFault::Limits | StatementFault::Buffer => 0,
         }
     }
+
+    /// The name of the layer that refused.
+    pub fn layer(self) -> &'static str
+        ensures { result.now ≡ layer self }
+    {
+        "statement"
+    }
 }
 
 /// Writes the refusal's number, its layer and its place.
@@ -43,8 +50,9 @@ impl fmt::Display for StatementFault {
 
     fn fmt<W: fmt::Write>(&self, f: &mut fmt::Formatter<W>) -> fmt::Result {
         let number = self.number();
+        let layer = self.layer();
         let place = self.place();
-        write!(f, "{number}, layer statement, place {place}")
+        write!(f, "{number}, layer {layer}, place {place}")
     }
 }
 

@@ -1,27 +1,32 @@
 //! Writing a month's lines as bytes.
-ghost use Rattle.std.specs.Prelude.{◌≡◌, ◌≢◌, ◌+◌, ◌*◌, ◌≤◌, ℕ, List, length, take, OnOk, Err};
+ghost use Rattle.std.specs.Prelude.{◌≡◌, ◌≢◌, ◌+◌, ◌*◌, ◌≤◌, ℕ, true, List, length, take, OnOk, Err};
 ghost use Rattle.std.specs.List.{All, flat_map, splice};
 ghost use Rattle.std.specs.Int.{w64, to_le_bytes};
+ghost use Rattle.ledger.specs.declared.state.Line.{Line};
 ghost use Rattle.ledger.specs.Form.{Bounded, Dated};
 ghost use Rattle.ledger.specs.Judged.{judged, kept_or};
-ghost use Rattle.statement.specs.declared.fault.StatementFault.TheVariants.{Limits};
+ghost use Rattle.statement.specs.declared.fault.StatementFault.TheVariants.{Limits, Buffer};
 ghost use Rattle.statement.specs.Limits.{within};
 ghost use Rattle.statement.specs.Encoding.{encoding, length_of, Distinct, right_bytes, penalty_bytes};
 ghost use Rattle.statement.specs.Reading.{ReadAs};
 ghost use Rattle.statement.specs.Writing.{write_rows, written};
 
 use crate::StatementFault;
-use crate::form::{AMOUNT, is_within, length_of};
+use crate::form::{AMOUNT, MOST_BYTES, is_within, length_of};
 use ledger::Line;
 
 /// Writes the month's lines at the start of the buffer, and answers how many bytes they take.
-#[tactic(auto, using(crate::proofs::Distinct::distinct))]
+#[tactic(auto, using(crate::proofs::Distinct::distinct, crate::proofs::Longest::longest))]
 pub fn write(month: u32, lines: &[Line], out: &mut [u8]) -> Result<usize, StatementFault>
     ensures answer { result ≡ judged (write_rows month lines.now (length out.old)) (length_of (length lines.now)) }
     ensures after { out.new ≡ kept_or result (written month lines.now out.old) out.old }
     ensures read_back { OnOk result (ReadAs (take (length_of (length lines.now)) out.new) month lines.now) }
     ensures booked { Dated month → length lines.now ≤ 64 → All Bounded lines.now → result ≢ Err Limits }
     ensures distinct { Distinct }
+
+    // `MOST_BYTES` are enough for any lines, and some lines need them all.
+    ensures enough { «MOST_BYTES» ≤ length out.old → result ≢ Err Buffer }
+    ensures needed { (ls : List Line) × (within 1 ls ≡ true) × (length (encoding 1 ls) ≡ «MOST_BYTES») }
 {
     if !is_within(month, lines) {
         return Err(StatementFault::Limits);

@@ -1,6 +1,6 @@
 //! The reasons for which a call is refused, each with its number and its layer.
 
-use crate::call::{Layer, Refusal};
+use crate::call::Refusal;
 use std::alloc::{AllocError, AllocFailed};
 
 /// Why a call is refused, by its number.
@@ -51,15 +51,13 @@ impl Reason {
     }
 
     /// The layer that gives this reason.
-    fn layer(self) -> Layer {
+    fn layer(self) -> &'static str {
         match self {
-            Reason::YearLength | Reason::Runs | Reason::StressShare => Layer::Calendar,
-            Reason::RecordCount | Reason::TestOrder => Layer::Metering,
-            Reason::NoWeight => Layer::Sharing,
-            Reason::StatementLength | Reason::StatementLimits | Reason::SmallBuffer => {
-                Layer::Statement
-            }
-            _ => Layer::Ledger,
+            Reason::YearLength | Reason::Runs | Reason::StressShare => "calendar",
+            Reason::RecordCount | Reason::TestOrder => "metering",
+            Reason::NoWeight => "sharing",
+            Reason::StatementLength | Reason::StatementLimits | Reason::SmallBuffer => "statement",
+            _ => "ledger",
         }
     }
 }
