@@ -26,7 +26,7 @@ impl Comparison<'_> {
         })?;
         self.charge_january(false)?;
         self.charge_january(true)?;
-        let line = self.ledger.booked(1, 1);
+        let line = self.ledger.line(1, 1)?;
         self.compare("January's line", &(line.right, line.penalty), &LINE)
     }
 

@@ -92,9 +92,14 @@ pub fn month_of(ledger: &Ledger) -> u32 {
     }
 }
 
+/// The kW that a facility holds under an award; 0 where either number is not given out.
+pub fn held_under(ledger: &Ledger, award: u32, facility: u32) -> u32 {
+    ledger.holding(award, facility).unwrap_or(0)
+}
+
 /// The kW that a facility holds over all awards.
 pub fn held_in_all(ledger: &Ledger, facility: u32) -> u32 {
     (1..=ledger.awards()).fold(0, |all: u32, award| {
-        all.saturating_add(ledger.holding(award, facility))
+        all.saturating_add(held_under(ledger, award, facility))
     })
 }

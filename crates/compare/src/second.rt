@@ -99,10 +99,13 @@ impl Second {
         Ok((right, penalty))
     }
 
-    /// The kW of an award that a facility holds, 0 where a number is not given out.
-    pub fn holding(&self, award: u32, facility: u32) -> u32 {
-        let held = trading::held(self.entries(), award, facility);
-        u32::try_from(held).unwrap_or(u32::MAX)
+    /// The kW of an award that a facility holds, where both numbers are given out.
+    pub fn holding(&self, award: u32, facility: u32) -> Option<u32> {
+        let entries = self.entries();
+        facilities::check_number(entries, facility).ok()?;
+        trading::check_number(entries, award).ok()?;
+        let held = trading::held(entries, award, facility);
+        Some(u32::try_from(held).unwrap_or(u32::MAX))
     }
 
     /// How many facilities are given out.

@@ -30,7 +30,7 @@ impl Comparison<'_> {
     pub fn compare_statement_of(&mut self, month: u32) -> anyhow::Result<()> {
         let mut lines = Vec::new(self.heap);
         for facility in 1..=self.ledger.facilities() {
-            let line = self.ledger.booked(month, facility);
+            let line = self.ledger.line(month, facility)?;
             lines.push((line.right, line.penalty))?;
         }
         self.compare_both_ways(month, &lines, MOST_BYTES, lines.len())

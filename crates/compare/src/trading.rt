@@ -1,7 +1,7 @@
 //! Calls of trading: registering, switching, awarding and ceding.
 use crate::call::{Call, Module};
 use crate::dice::Dice;
-use crate::notes::{Notes, held_in_all, month_of};
+use crate::notes::{Notes, held_in_all, held_under, month_of};
 use ledger::Ledger;
 
 /// The most kW of a module and of an access, and of an award.
@@ -88,7 +88,7 @@ fn ceding(dice: &mut Dice, notes: &Notes, ledger: &Ledger) -> Call {
         true => taker,
         false => holder(dice, ledger, award),
     };
-    let held = ledger.holding(award, giver);
+    let held = held_under(ledger, award, giver);
     let firm = notes.facility(taker).map_or(0, |found| found.firm);
     let rest = firm.saturating_sub(held_in_all(ledger, taker));
     let kw = match dice.within(1, 12) {
@@ -112,7 +112,7 @@ fn ceding(dice: &mut Dice, notes: &Notes, ledger: &Ledger) -> Call {
 fn holder(dice: &mut Dice, ledger: &Ledger, award: u32) -> u32 {
     let mut facility = dice.number(ledger.facilities());
     for _ in 0..6 {
-        if ledger.holding(award, facility) > 0 {
+        if held_under(ledger, award, facility) > 0 {
             return facility;
         }
         facility = dice.number(ledger.facilities());

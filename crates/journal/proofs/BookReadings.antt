@@ -1,6 +1,6 @@
--- What the readings of a book answer for numbers that were given out and months that are closed. Assumes nothing.
-use Rattle.std.proofs.Common.{◌≡◌, ℕ, ◌-◌, ◌≤◌, Bool, true, false, not, ◌&&◌, leb, [], ◌∷◌, length, Ok, Err, Result, refl, ◌∙◌, arith}
-use Rattle.std.proofs.lemmas.Bool.{and_from, cond-true, cond-false, le-leb, not_from_true}
+-- What reading a line answers for a facility that was given out and a month that is closed. Assumes nothing.
+use Rattle.std.proofs.Common.{◌≡◌, ℕ, ◌≤◌, Bool, true, false, not, leb, [], ◌∷◌, length, Ok, Err, Result, refl, ◌∙◌, arith}
+use Rattle.std.proofs.lemmas.Bool.{and_from, cond-false, le-leb, not_from_true}
 use Rattle.ledger.specs.declared.refusal.Refusal.{Refusal}
 use Rattle.ledger.specs.declared.refusal.Refusal.TheVariants as refusal
 use Rattle.ledger.specs.declared.fault.LedgerFault.{LedgerFault}
@@ -11,21 +11,10 @@ use Rattle.ledger.specs.declared.state.Line.{Line}
 use Rattle.ledger.specs.declared.state.Book.{Book}
 use Rattle.ledger.specs.Judged.{Rows, ruled, given_out}
 use Rattle.ledger.specs.Course.{unopened}
-use Rattle.ledger.specs.Form.{award_at, held_under}
-use Rattle.ledger.specs.Making.{no_line}
 use Rattle.ledger.specs.Lines.{closed_months, line_rows, booked_line}
-use Rattle.ledger.specs.Readings.{holding_at, booked_at}
 
 given : (n count : ℕ) → 1 ≤ n → n ≤ count → given_out n count ≡ true
 given n count from to = and_from (leb 1 n) (leb n count) (le-leb 1 n from) (le-leb n count to)
-
--- a closed month's line is the one that is booked
-pub booked_is : (b : Book) (m f : ℕ) → 1 ≤ m → m ≤ closed_months b.stage → 1 ≤ f → f ≤ 64 → booked_at b m f ≡ booked_line b m f
-booked_is b m f from to first last = cond-true (given_out m (closed_months b.stage) && given_out f 64) (booked_line b m f) no_line (and_from (given_out m (closed_months b.stage)) (given_out f 64) (given m (closed_months b.stage) from to) (given f 64 first last))
-
--- a holding of an award and a facility that were given out
-pub holding_is : (b : Book) (a f : ℕ) → 1 ≤ a → a ≤ length b.trade.items → 1 ≤ f → f ≤ length b.register.items → holding_at b a f ≡ held_under (f - 1) (award_at b.trade (a - 1))
-holding_is b a f from to first last = cond-true (given_out a (length b.trade.items) && given_out f (length b.register.items)) (held_under (f - 1) (award_at b.trade (a - 1))) 0 (and_from (given_out a (length b.trade.items)) (given_out f (length b.register.items)) (given a (length b.trade.items) from to) (given f (length b.register.items) first last))
 
 -- where a month is closed, the year was opened
 opened_then : (s : Stage) → 1 ≤ closed_months s → unopened s ≡ false

@@ -23,7 +23,7 @@ use Rattle.journal.specs.Acts.{Act, acts, is_award, is_registering, is_closing, 
 use Rattle.journal.specs.Law.{facilities, held, terms, firm, on, award_by, line, Staged, Holds, Law, Points}
 use Rattle.journal.proofs.Bounded.{line_bounded}
 use Rattle.journal.proofs.Balance.{balance}
-use Rattle.journal.proofs.BookReadings.{read_line, holding_is}
+use Rattle.journal.proofs.BookReadings.{read_line}
 use Rattle.journal.proofs.Alike.{holdings_by, trade_is}
 use Rattle.journal.proofs.Simulation.{Course, CourseBy, Simulates, reports}
 use Rattle.journal.proofs.Theorem.{simulated}
@@ -65,9 +65,7 @@ module _ (h : List Act) (l : Ledger) (says : Simulates h l.book) where
 
   holdings_hold : (a f : ℕ) → 1 ≤ a → a ≤ count_by is_award h → 1 ≤ f → f ≤ count_by is_registering h → holding_at b a f + sum_by (lost a f) h ≡ sum_by (brought a f) h
   holdings_hold a f from to first last =
-      let count = says.registers.count in
-      let is = holding_is b a f from (omega (arith, to, says.trades.count)) first (omega (arith, last, count)) in
-      ap (λ kw. kw + sum_by (lost a f) h) is ∙ held_hold a f from to first (omega (arith, last, count, l.sized.0))
+      held_hold a f from to first (omega (arith, last, says.registers.count, l.sized.0))
 
   whole_holds : (a : ℕ) → 1 ≤ a → a ≤ count_by is_award h → sum_by (held h a) facilities ≡ (terms h a).0
   whole_holds a from to =

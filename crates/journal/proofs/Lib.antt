@@ -14,8 +14,8 @@ pub mod Metering
 pub mod Closing
 pub mod Theorem
 pub mod LawHolds
-pub mod Counted
 pub mod Adding
+pub mod Flattened
 pub mod Totalling
 pub mod WorkedRun
 pub mod WorkedFigures

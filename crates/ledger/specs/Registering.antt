@@ -17,17 +17,21 @@ right_module m = nat_le m.installed 1_000_000 && nat_le m.coefficient 1_000
 abbrev pub right_modules : List Module → Bool
 right_modules ms = list_all right_module ms
 
--- whether registering's figures are within their limits: a letter A to Z, one to four modules, and the access
+-- whether a facility may have so many modules: one to four
+abbrev pub right_count : ℕ → Bool
+right_count count = nat_le 1 count && nat_le count 4
+
+-- whether registering's figures are within their limits: a letter A to Z, the count and its modules, and the access
 abbrev pub right_figures : ℕ → List Module → ℕ → ℕ → Bool
 right_figures letter modules count access =
-    (nat_le 65 letter && nat_le letter 90) && nat_le 1 count && nat_le count 4 && right_modules (take count modules) && nat_le access 1_000_000
+    (nat_le 65 letter && nat_le letter 90) && right_count count && right_modules (take count modules) && nat_le access 1_000_000
 
 -- a module's firm power in watts
 abbrev pub watts : Module → ℕ
 watts m = m.installed * m.coefficient
 
--- Firm power: the lesser of the access and the whole kW of all modules together. Two modules of 1 kW at 500 have 1 kW
--- together, though each by itself has none.
+-- firm power: the whole kW that the watts of the modules make together, and no more than the access; a part of a kW is
+-- dropped from their sum alone
 abbrev pub firm_power : List Module → ℕ → ℕ → ℕ
 firm_power modules count access = min access (sum_by watts (take count modules) / 1_000)
 

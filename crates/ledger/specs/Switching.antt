@@ -1,12 +1,12 @@
 -- Switching: its refusals, and the one facility that it changes. Serves src/switching.rt. Assumes nothing.
-use Rattle.std.specs.Prelude.{ℕ, ◌-◌, Bool, not, [], ◌∷◌, ◌++◌, List, length, slice_index_or, slice_set}
+use Rattle.std.specs.Prelude.{ℕ, ◌-◌, Bool, not, [], ◌∷◌, ◌++◌, length, slice_set}
 use Rattle.ledger.specs.declared.course.Call.TheVariants as call
 use Rattle.ledger.specs.declared.refusal.Refusal.TheVariants as refusal
 use Rattle.ledger.specs.declared.state.Facility.{Facility}
 use Rattle.ledger.specs.declared.state.Book.{Book}
 use Rattle.ledger.specs.Judged.{Rows, given_out}
 use Rattle.ledger.specs.Course.{course}
-use Rattle.ledger.specs.Form.{no_facility}
+use Rattle.ledger.specs.Form.{facility_at}
 use Rattle.ledger.specs.Changes.{with_register}
 
 abbrev pub switch_rows : Book → ℕ → Rows
@@ -16,9 +16,7 @@ switch_rows b f = course call.Switch b.stage ++ (not (given_out f (length b.regi
 abbrev pub set_on : Facility → Bool → Facility
 set_on x on = record { letter = x.letter; firm = x.firm; on = on }
 
--- the facilities with the facility f on or off
-abbrev pub put_switch : List Facility → ℕ → Bool → List Facility
-put_switch facilities f on = slice_set facilities (f - 1) (set_on (slice_index_or facilities (f - 1) no_facility) on)
-
+-- the book with the facility f on or off
 abbrev pub switched : Book → ℕ → Bool → Book
-switched b f on = with_register b (record { items = put_switch b.register.items f on })
+switched b f on =
+    with_register b (record { items = slice_set b.register.items (f - 1) (set_on (facility_at b.register (f - 1)) on) })

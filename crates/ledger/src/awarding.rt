@@ -1,6 +1,7 @@
 //! Awarding kW to a facility.
-ghost use Rattle.std.specs.Prelude.{◌≡◌, ◌+◌, ◌≤◌, ◌∷◌, length, Ok};
-ghost use Rattle.ledger.specs.Judged.{judged, plainly, ruled, kept_or};
+ghost use Rattle.std.specs.Prelude.{◌≡◌, ◌+◌, ◌≤◌, ◌↔◌, ◌∷◌, length, IsTrue, Ok, Err};
+ghost use Rattle.ledger.specs.Judged.{given_out, judged, plainly, ruled, kept_or};
+ghost use Rattle.ledger.specs.Course.{belongs};
 ghost use Rattle.ledger.specs.Awarding.{over_firm, right_award, award_rows, new_award, awarded};
 ghost use Rattle.ledger.specs.Entries.{Journal, awarding};
 ghost use Rattle.ledger.specs.Runs.{Recorded};
@@ -8,7 +9,7 @@ ghost use Rattle.ledger.specs.Runs.{Recorded};
 use crate::course::Call;
 use crate::kept::Ledger;
 use crate::numbers::FacilityNumber;
-use crate::state::{Award, MOST_FACILITIES};
+use crate::state::{Award, MOST_AWARDS, MOST_FACILITIES};
 use crate::{LedgerFault, Refusal};
 
 /// The fewest kW of an award.
@@ -23,6 +24,10 @@ impl Ledger {
     pub fn award(&mut self, facility: u32, kw: u32, price: u32) -> Result<u32, LedgerFault>
         ensures answer { result ≡ ruled (award_rows self.old.book facility kw price) (Ok (length self.old.book.trade.items + 1)) }
         ensures after { self.new.book ≡ kept_or result (awarded self.old.book facility kw price) self.old.book }
+        ensures full { (result ≡ Err (LedgerFault.Own Refusal.NoRoom))
+            ↔ (IsTrue (belongs Call.Award self.old.book.stage)
+            × IsTrue (given_out facility (length self.old.book.register.items))
+            × (length self.old.book.trade.items ≡ «MOST_AWARDS»)) }
         ensures recorded { (j : Journal) → Recorded j self.old → Recorded (awarding facility kw price result ∷ j) self.new }
     {
         let holder = self.may_award(facility, kw, price)?;

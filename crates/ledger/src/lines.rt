@@ -21,7 +21,7 @@ impl Ledger {
     }
 
     /// The line of a facility in a month.
-    pub(crate) fn booked_line(&self, month: MonthNumber, facility: FacilityNumber) -> Line
+    fn booked_line(&self, month: MonthNumber, facility: FacilityNumber) -> Line
         ensures { result ≡ booked_line self.now.book month.number facility.number }
     {
         self.book.lines.months[month.place()][facility.place()]

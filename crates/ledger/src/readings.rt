@@ -1,12 +1,12 @@
 //! Readings of a ledger: they refuse nothing and change nothing.
-ghost use Rattle.std.specs.Prelude.{◌≡◌, length};
+ghost use Rattle.std.specs.Prelude.{◌≡◌, ◌↔◌, length, All};
 ghost use Rattle.ledger.specs.Form.{Bounded};
 ghost use Rattle.ledger.specs.Lines.{closed_months};
-ghost use Rattle.ledger.specs.Readings.{holding_at, booked_at};
+ghost use Rattle.ledger.specs.Readings.{holding_of, closed_lines};
 
 use crate::kept::Ledger;
-use crate::numbers::FacilityNumber;
 use crate::state::{Line, MOST_FACILITIES, Stage};
+use calendar::MONTHS;
 
 impl Ledger {
     /// How far the year is.
@@ -32,33 +32,27 @@ impl Ledger {
 
     /// How many months are closed.
     pub fn closed_months(&self) -> u32
-        ensures { result ≡ closed_months self.now.book.stage }
+        ensures value { result ≡ closed_months self.now.book.stage }
+        ensures over { (result ≡ MONTHS) ↔ (self.now.book.stage ≡ Stage.Finished) }
     {
         self.stage().closed_months()
     }
 
-    /// The kW that a facility holds under an award; 0 where either number was not given out.
-    pub fn holding(&self, award: u32, facility: u32) -> u32
-        ensures { result ≡ holding_at self.now.book award facility }
+    /// The kW that a facility holds under an award; nothing where either number was not given out.
+    pub fn holding(&self, award: u32, facility: u32) -> Option<u32>
+        ensures { result ≡ holding_of self.now.book award facility }
     {
-        let (Ok(award), Ok(facility)) = (self.find_award(award), self.find_facility(facility))
-        else {
-            return 0;
-        };
-        self.held(award, facility)
+        let award = self.find_award(award).ok()?;
+        let facility = self.find_facility(facility).ok()?;
+        Some(self.held(award, facility))
     }
 
-    /// The line of a facility in a month; two zeros where the month is not closed, or no facility can have the number.
-    pub fn booked(&self, month: u32, facility: u32) -> Line
-        ensures value { result ≡ booked_at self.now.book month facility }
-        ensures bound { Bounded result }
+    /// The lines of the closed months, in their order: of each month one for every number that a facility can have, two
+    /// zeros for one that was not given out.
+    pub fn closed_lines(&self) -> &[[Line; MOST_FACILITIES]]
+        ensures value { result.now ≡ closed_lines self.now.book }
+        ensures bound { All (All Bounded) result.now }
     {
-        let Ok(month) = self.find_month(month) else {
-            return Line::default();
-        };
-        let Some(facility) = FacilityNumber::given(facility, MOST_FACILITIES) else {
-            return Line::default();
-        };
-        self.booked_line(month, facility)
+        &self.book.lines.months[..self.closed_months() as usize]
     }
 }

@@ -1,13 +1,14 @@
 //! Registering a facility, and its firm power.
-ghost use Rattle.std.specs.Prelude.{◌≡◌, ◌+◌, ◌≤◌, true, ◌∷◌, take, length, sum_by, Ok};
+ghost use Rattle.std.specs.Prelude.{◌≡◌, ◌+◌, ◌≤◌, ◌↔◌, true, ◌∷◌, take, length, sum_by, IsTrue, Ok, Err};
 ghost use Rattle.ledger.specs.Judged.{judged, ruled, kept_or};
-ghost use Rattle.ledger.specs.Registering.{right_module, right_modules, right_figures, watts, firm_power, register_rows, registered};
+ghost use Rattle.ledger.specs.Course.{belongs};
+ghost use Rattle.ledger.specs.Registering.{right_module, right_modules, right_count, right_figures, watts, firm_power, register_rows, registered};
 ghost use Rattle.ledger.specs.Entries.{Journal, registering};
 ghost use Rattle.ledger.specs.Runs.{Recorded};
 
 use crate::course::{Call, turn};
 use crate::kept::Ledger;
-use crate::state::Facility;
+use crate::state::{Facility, MOST_FACILITIES};
 use crate::{LedgerFault, Refusal};
 
 /// The most modules of a facility.
@@ -50,6 +51,10 @@ impl Ledger {
     ) -> Result<u32, LedgerFault>
         ensures answer { result ≡ ruled (register_rows self.old.book letter modules count access) (Ok (length self.old.book.register.items + 1)) }
         ensures after { self.new.book ≡ kept_or result (registered self.old.book letter (firm_power modules count access)) self.old.book }
+        ensures full { (result ≡ Err (LedgerFault.Own Refusal.NoRoom))
+            ↔ (IsTrue (belongs Call.Register self.old.book.stage)
+            × (length self.old.book.register.items ≡ «MOST_FACILITIES»)) }
+        ensures count { IsTrue (right_count count) ↔ ((1 ≤ count) × (count ≤ «MOST_MODULES»)) }
         ensures recorded { (j : Journal) → Recorded j self.old → Recorded (registering letter modules count access result ∷ j) self.new }
     {
         let figures = Figures {

@@ -1,14 +1,13 @@
 //! Switching a facility on or off.
-ghost use Rattle.std.specs.Prelude.{◌≡◌, ◌≤◌, ◌∷◌, length, Ok};
+ghost use Rattle.std.specs.Prelude.{◌≡◌, ◌∷◌, Ok};
 ghost use Rattle.ledger.specs.Judged.{ruled, kept_or};
-ghost use Rattle.ledger.specs.Switching.{switch_rows, set_on, put_switch, switched};
+ghost use Rattle.ledger.specs.Switching.{switch_rows, set_on, switched};
 ghost use Rattle.ledger.specs.Entries.{Journal, switching};
 ghost use Rattle.ledger.specs.Runs.{Recorded};
 
 use crate::LedgerFault;
 use crate::course::Call;
 use crate::kept::Ledger;
-use crate::numbers::FacilityNumber;
 use crate::state::Facility;
 
 impl Ledger {
@@ -20,17 +19,9 @@ impl Ledger {
         ensures recorded { (j : Journal) → Recorded j self.old → Recorded (switching facility on result ∷ j) self.new }
     {
         let facility = self.admitted(Call::Switch, facility)?;
-        put_switch(self.book.register.as_mut_slice(), facility, on);
+        set_on(&mut self.book.register[facility.place()], on);
         Ok(())
     }
-}
-
-/// Switches the facility on or off; all others stay.
-fn put_switch(facilities: &mut [Facility], facility: FacilityNumber, on: bool)
-    requires { facility.number ≤ length facilities.old }
-    ensures { facilities.new ≡ put_switch facilities.old facility.number on }
-{
-    set_on(&mut facilities[facility.place()], on);
 }
 
 /// Sets the facility on or off.

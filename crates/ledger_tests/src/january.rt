@@ -75,12 +75,14 @@ impl<A: Abort> Year<'_, A> {
         accepted(self.rt, 21, self.ledger.switch(1, true), ())
     }
 
-    /// Facility 1 holds 499 and 2,000 kW, facility 2 holds 501.
+    /// Facility 1 holds 499 and 2,000 kW, facility 2 holds 501; there are two of each.
     fn hold(&self) {
-        assert_eq!(self.rt; self.ledger.holding(1, 1), 499);
-        assert_eq!(self.rt; self.ledger.holding(2, 1), 2_000);
-        assert_eq!(self.rt; self.ledger.holding(1, 2), 501);
-        assert_eq!(self.rt; self.ledger.holding(2, 2), 0);
+        assert_eq!(self.rt; self.ledger.holding(1, 1), Some(499));
+        assert_eq!(self.rt; self.ledger.holding(2, 1), Some(2_000));
+        assert_eq!(self.rt; self.ledger.holding(1, 2), Some(501));
+        assert_eq!(self.rt; self.ledger.holding(2, 2), Some(0));
+        assert_eq!(self.rt; self.ledger.holding(3, 1), None);
+        assert_eq!(self.rt; self.ledger.holding(1, 3), None);
     }
 
     /// Calls 23 and 24; the cessions that were refused have moved nothing.

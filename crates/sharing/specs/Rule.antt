@@ -1,5 +1,6 @@
--- What every sharing rule keeps, and what it does to the rows. Serves src/rule.rt. Assumes nothing.
-use Rattle.std.specs.Prelude.{◌≡◌, ℕ, ◌+◌, ◌*◌, ◌<◌, ◌≤◌, ◌↔◌, List, length, Ok, Err, sum, Result, slice_index}
+-- What every sharing rule keeps, and what it does to the rows. Serves src/rule.rt.
+use Rattle.std.specs.Prelude.{◌≡◌, ℕ, ◌+◌, ◌*◌, ◌<◌, ◌≤◌, List, length, Ok, Err, sum, Result, slice_index}
+use Rattle.sharing.specs.declared.rule.TheConstants.{MOST_ROWS}
 use Rattle.sharing.specs.declared.rows.Row.{Row}
 use Rattle.sharing.specs.declared.fault.SharingFault.{SharingFault}
 use Rattle.sharing.specs.declared.fault.SharingFault.TheVariants.{NoWeight}
@@ -12,12 +13,8 @@ most_cents = 30_000_000_000
 -- a total, and the MWh of rows, that a rule can be asked to share
 pub record Shareable (total : ℕ) (ms : List ℕ) : Type 0 where
   pub cents : total ≤ most_cents
-  pub rows : length ms ≤ 1_024
+  pub rows : length ms ≤ MOST_ROWS
   pub mwh : sum ms ≤ 40_000_000
-
--- of rows within the limit of MWh, a rule can be asked to share the total over n, and over no more
-abbrev pub MostRows : ℕ → ℕ → Type 0
-MostRows n total = (ms : List ℕ) → sum ms ≤ 40_000_000 → (Shareable total ms ↔ (length ms ≤ n))
 
 -- A charge that is less than one cent from the exact share, which is total × weight / all: as whole numbers, charge × all
 -- differs from total × weight by less than all. So 33 and 34 are near a third of 100, and 32 and 35 are not.

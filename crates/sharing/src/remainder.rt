@@ -2,7 +2,7 @@
 //! the rows that the division left most of, among equals to the earlier row.
 ghost use Rattle.std.specs.Prelude.{◌≡◌, ◌+◌, ◌-◌, ◌*◌, ◌^◌, ◌<◌, ◌≤◌, true, [], length, is_ok, sum};
 ghost use Rattle.sharing.specs.Rows.{mwhs, charges_in, with_charge, charged};
-ghost use Rattle.sharing.specs.Rule.{Shareable, MostRows, Shares};
+ghost use Rattle.sharing.specs.Rule.{Shareable, Shares};
 ghost use Rattle.sharing.specs.Split.{cents_of};
 ghost use Rattle.sharing.specs.Remainder.{whole_cents, remainder_of, remainders, left_over, with_more, remainder_weights, remainder_charges, Fair};
 ghost use Rattle.sharing.specs.Cut.{count_above};
@@ -32,7 +32,6 @@ impl SharingRule for Remainder {
             (remainder_weights self.now total (mwhs rows.old))
             (remainder_charges self.now total (mwhs rows.old))
             rows.old result rows.new }
-        ensures most_rows { MostRows «MOST_ROWS» total }
         ensures fair { is_ok result ≡ true → Fair total (mwhs rows.old) (charges_in rows.new) }
     {
         let weighed = Weighed::over(total, rows)?;

@@ -1,7 +1,7 @@
 //! What a sharing rule means, and what every rule keeps.
 ghost use Rattle.std.specs.Prelude.{ℕ, List};
 ghost use Rattle.sharing.specs.Rows.{mwhs};
-ghost use Rattle.sharing.specs.Rule.{Shareable, MostRows, Lawful, Shares};
+ghost use Rattle.sharing.specs.Rule.{Shareable, Lawful, Shares};
 
 use crate::{Row, SharingFault};
 
@@ -18,11 +18,10 @@ pub trait SharingRule {
     /// Puts each row's charge in place, or refuses and leaves the rows as they are.
     fn share(&self, total: u64, rows: &mut [Row]) -> Result<(), SharingFault>
         requires { Shareable total (mwhs rows.old) }
-        ensures shares { Shares total
+        ensures { Shares total
             (weights self.now total (mwhs rows.old))
             (charges self.now total (mwhs rows.old))
-            rows.old result rows.new }
-        ensures most_rows { MostRows «MOST_ROWS» total };
+            rows.old result rows.new };
 
     /// What each rule has to show: its charges add up to the total, each less than a cent from the exact share.
     ghost lawful: { (rule : Self) (total : ℕ) (ms : List ℕ) → Shareable total ms → Lawful total ms (weights rule total ms) (charges rule total ms) };

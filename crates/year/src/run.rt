@@ -3,6 +3,7 @@ use crate::answers::{accepted, numbered, refused};
 use crate::buyers::buyer;
 use crate::print::print_rows;
 use crate::year::Year;
+use anyhow::anyhow;
 use calendar::COMMON_YEAR;
 use journal::worked_run;
 use ledger::{Ledger, LedgerFault, MOST_MODULES, Module, Refusal};
@@ -74,12 +75,15 @@ impl Year<'_> {
         self.switch("switching on", TAKER, true)?;
         let answer = self.ledger.cede(AWARD, WINNER, TAKER, CEDED);
         accepted(self.rt, "ceding", answer)?;
-        println!(self.rt;
-            "held after the cession: {} and {} kW",
-            self.ledger.holding(AWARD, WINNER),
-            self.ledger.holding(AWARD, TAKER)
-        )?;
+        let (winner, taker) = (self.holding(WINNER)?, self.holding(TAKER)?);
+        println!(self.rt; "held after the cession: {winner} and {taker} kW")?;
         Ok(())
+    }
+
+    /// The kW of the award that a facility holds.
+    fn holding(&self, facility: u32) -> anyhow::Result<u32> {
+        let held = self.ledger.holding(AWARD, facility);
+        held.ok_or_else(|| anyhow!("a holding was asked of a number that was not given out"))
     }
 
     /// A facility's report of February's one stress hour.

@@ -79,6 +79,15 @@ pub fn how_many(entries: &[Entry]) -> u32 {
     count(entries, Sort::Awarding)
 }
 
+/// Refuses an award's number that is not given out.
+pub fn check_number(entries: &[Entry], award: u32) -> Result<(), Refusal> {
+    if (1..=how_many(entries)).contains(&award) {
+        Ok(())
+    } else {
+        Err(Reason::NoAward.refusal())
+    }
+}
+
 /// The kW of an award that a facility holds.
 pub fn held(entries: &[Entry], award: u32, facility: u32) -> u64 {
     let facilities = facility..=facility;
@@ -133,9 +142,7 @@ pub fn judge_ceding(
 ) -> Result<u64, Refusal> {
     facilities::check_number(entries, giver)?;
     facilities::check_number(entries, taker)?;
-    if !(1..=how_many(entries)).contains(&award) {
-        return Err(Reason::NoAward.refusal());
-    }
+    check_number(entries, award)?;
     if kw == 0 {
         return Err(Reason::Figure.refusal());
     }

@@ -1,4 +1,5 @@
-use Rattle.std.proofs.Common.{◌≡◌, ℕ, ◌+◌, [], ◌∷◌, ◌++◌, length, Ok, sym, ap, ◌∙◌, subst, rules}
+use Rattle.std.proofs.Common.{◌≡◌, ℕ, ◌+◌, [], ◌∷◌, ◌++◌, length, Ok, sym, ap, ◌∙◌, subst, arith, rules}
+use Rattle.std.proofs.lemmas.Bool.Decides.{nat_tests}
 use Rattle.ledger.specs.declared.state.Award.{Award}
 use Rattle.ledger.specs.declared.state.Book.{Book}
 use Rattle.ledger.specs.Form.{Trade}
@@ -17,7 +18,7 @@ returns-in_err-holder c =
     let f = c.args.facility in
     let exit = refused_exit (award_rows b f c.args.kw c.args.price) f (Ok (length b.trade.items + 1)) c.in_err-holder.field-0.0 c.from_residual.result c.in_err-holder.ensures c.from_residual.ensures.1 in
     let after = exit.1 (awarded b f c.args.kw c.args.price) b in
-    record { answer = exit.0; after = after; recorded = λ j h. noted j _ c.args.self.now _ h (exit.0, after) }
+    record { answer = exit.0; after = after; full = (λ is. grind (arith, nat_tests), λ both. grind (arith, nat_tests)); recorded = λ j h. noted j _ c.args.self.now _ h (exit.0, after) }
 
 -- the book with a new award pushed, all of whose kW facility n holds, is the awarded one
 is_awarded : (b : Book) (f kw price n : ℕ) (new : Award) (trade : Trade) → trade.items ≡ b.trade.items ++ new ∷ [] → n ≡ f → new ≡ new_award n kw price → with_trade b trade ≡ awarded b f kw price

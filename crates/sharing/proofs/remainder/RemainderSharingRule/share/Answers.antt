@@ -35,8 +35,8 @@ hand_out-requires-clause-fits c =
     let most : weighed.total * sum ms ≤ 30_000_000_000 * 40_000_000 = mul-le-mul weighed.cents c.requires.mwh in
     rw charges (omega (arith, small, most))
 
-pub returns-clause-shares : goal.returns-clause-shares
-returns-clause-shares c =
+pub returns : goal.returns
+returns c =
     let rows = c.args.rows.now in
     let ms = mwhs rows in
     let total = c.args.total in
@@ -44,19 +44,12 @@ returns-clause-shares c =
     let is = c.in_ok-weighed.ensures in
     let divided = c.divide_all-cents.ensures in
     let cs = by_remainder total (sum ms) ms in
+    let long : length cs ≡ length rows = length-by_remainder total (sum ms) ms ∙ length-mwhs rows in
     let by : c.hand_out.new.rows ≡ charged rows (by_remainder weighed.total weighed.whole ms) = charged_by_remainder weighed.total weighed.whole rows c.divide_all-cents.new.rows c.hand_out.new.rows c.as_slice-rems.result.now c.divide_all-cents.result divided.charges (c.as_slice-rems.ensures.value ∙ divided.rests) divided.left c.hand_out.ensures in
     let done : c.hand_out.new.rows ≡ charged rows cs = by ∙ ap (λ t. charged rows (by_remainder t weighed.whole ms)) is.0 ∙ ap (λ w. charged rows (by_remainder total w ms)) is.1 in
     let some : sum ms ≡ 0 → total ≡ 0 = λ z. sym is.0 ∙ weighed.some (is.1 ∙ z) in
-    (some, done)
-
-pub returns-clause-fair : goal.returns-clause-fair
-returns-clause-fair c ok =
-    let rows = c.args.rows.now in
-    let ms = mwhs rows in
-    let total = c.args.total in
-    let cs = by_remainder total (sum ms) ms in
-    let shared : (sum ms ≡ 0 → total ≡ 0) × (c.hand_out.new.rows ≡ charged rows cs) = returns-clause-shares c in
-    let long : length cs ≡ length rows = length-by_remainder total (sum ms) ms ∙ length-mwhs rows in
-    let charges : charges_in c.hand_out.new.rows ≡ cs = ap charges_in shared.1 ∙ charges_in_charged rows cs long in
-    let P : List ℕ → Type 0 = λ l. Fair total ms l in
-    subst P (sym charges) (remainder_fair total ms shared.0)
+    let charges : charges_in c.hand_out.new.rows ≡ cs = ap charges_in done ∙ charges_in_charged rows cs long in
+    record {
+      shares = (some, done);
+      fair = λ _. let P : List ℕ → Type 0 = λ l. Fair total ms l in subst P (sym charges) (remainder_fair total ms some);
+    }

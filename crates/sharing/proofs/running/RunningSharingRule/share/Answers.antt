@@ -40,8 +40,8 @@ loop-row-preserved c =
       c.charge_next.ensures.next ∙ ap (λ n. before + n) mwh ∙ reached ms i before so_far.3 inside,
     )
 
-pub returns-clause-shares : goal.returns-clause-shares
-returns-clause-shares c =
+pub returns : goal.returns
+returns c =
     let rows = c.args.rows.now in
     let ms = mwhs rows in
     let total = c.args.total in
