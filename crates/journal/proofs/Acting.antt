@@ -64,13 +64,17 @@ stage_unopened Unopened is = refl
 stage_unopened (Month m p) is = absurd (false≢true is)
 stage_unopened Finished is = absurd (false≢true is)
 
+-- with an act on top there are some
+pub some_acts : (x : Act) (h : List Act) → ¬ (x ∷ h ≡ [])
+some_acts x h none = cc
+
 -- registering leaves a phase of a month as it is
-in_any_phase : (s : Stage) (n k a : ℕ) (none none' unreported : Type 0) (cut_off cut-off' : ℕ → Type 0) → belongs call.Register s ≡ true → ((m : ℕ) → cut_off m → cut-off' m) → Course s n k a none unreported cut_off → Course s n k a none' unreported cut-off'
-in_any_phase Unopened n k a none none' unreported cut_off cut-off' in_turn keeps old = absurd (false≢true in_turn)
-in_any_phase (Month m Trading) n k a none none' unreported cut_off cut-off' in_turn keeps old = old
-in_any_phase (Month m Metering) n k a none none' unreported cut_off cut-off' in_turn keeps old = (old.0, old.1, old.2, keeps m old.3)
-in_any_phase (Month m Claims) n k a none none' unreported cut_off cut-off' in_turn keeps old = (old.0, old.1, old.2, keeps m old.3)
-in_any_phase Finished n k a none none' unreported cut_off cut-off' in_turn keeps old = absurd (false≢true in_turn)
+in_any_phase : (s : Stage) (n k a : ℕ) (none none' unreported : Type 0) (cut_off cut-off' : ℕ → Type 0) → belongs call.Register s ≡ true → ¬ none' → ((m : ℕ) → cut_off m → cut-off' m) → Course s n k a none unreported cut_off → Course s n k a none' unreported cut-off'
+in_any_phase Unopened n k a none none' unreported cut_off cut-off' in_turn some keeps old = absurd (false≢true in_turn)
+in_any_phase (Month m Trading) n k a none none' unreported cut_off cut-off' in_turn some keeps old = (old.0, old.1, old.2, some, old.4)
+in_any_phase (Month m Metering) n k a none none' unreported cut_off cut-off' in_turn some keeps old = (old.0, old.1, old.2, keeps m old.3)
+in_any_phase (Month m Claims) n k a none none' unreported cut_off cut-off' in_turn some keeps old = (old.0, old.1, old.2, keeps m old.3)
+in_any_phase Finished n k a none none' unreported cut_off cut-off' in_turn some keeps old = absurd (false≢true in_turn)
 
 module _ (l : Ledger) (h : List Act) (old : Simulates h l.book) where
   abbrev b : Book
@@ -89,7 +93,7 @@ module _ (l : Ledger) (h : List Act) (old : Simulates h l.book) where
         numbers = tt;
         trades = trades;
         registers = registers;
-        course = subst (λ s. CourseBy (opened year firsts lengths ∷ []) (given_year year firsts lengths) (reports b.month) (moved call.Open s)) (sym is) (refl, refl, refl, start.1);
+        course = subst (λ s. CourseBy (opened year firsts lengths ∷ []) (given_year year firsts lengths) (reports b.month) (moved call.Open s)) (sym is) (refl, refl, refl, some_acts _ _, start.1);
         lines = λ m f from to _ _. absurd (omega (arith, from, to));
         cut_offs = λ m from to. absurd (omega (arith, from, to));
         charges = tt;
@@ -105,7 +109,7 @@ module _ (l : Ledger) (h : List Act) (old : Simulates h l.book) where
         numbers = (ap (λ x. x + 1) old.registers.count, old.numbers);
         trades = old.trades;
         registers = registers_alike _ _ _ _ _ _ _ (sym (one_more is_registering act h refl)) (λ f. sym (told_figure (λ x. x) (eqb f n) power (latest (firm_of f) h) 0)) (λ f. refl) (registered_registers _ _ _ b old.registers letter power);
-        course = in_any_phase b.stage _ _ _ _ _ _ _ _ in_turn (λ m z. record { trade = z.trade; switches = z.switches; nth = z.nth; results = z.results }) old.course;
+        course = in_any_phase b.stage _ _ _ _ _ _ _ _ in_turn (some_acts _ _) (λ m z. record { trade = z.trade; switches = z.switches; nth = z.nth; results = z.results }) old.course;
         lines = old.lines;
         cut_offs = old.cut_offs;
         charges = old.charges;
@@ -115,12 +119,13 @@ module _ (l : Ledger) (h : List Act) (old : Simulates h l.book) where
   pub switched_simulates : (f : ℕ) (v : Bool) (m : ℕ) → b.stage ≡ Month m Trading → 0 < f → f ≤ length b.register.items → Simulates (switched f v ∷ h) (switching.switched b f v)
   switched_simulates f v m is from to =
       let act = switched f v in
+      let now = subst At is old.course in
       record {
         calendar = old.calendar;
         numbers = old.numbers;
         trades = old.trades;
         registers = registers_alike _ _ _ _ _ _ _ refl (λ g. refl) (λ g. sym (told_figure (λ x. x) (eqb g f) v (latest (switch_of g) h) false)) (switched_registers _ _ _ b old.registers f v from to);
-        course = subst (CourseBy (act ∷ h) b.calendar (reports b.month)) (sym is) (subst At is old.course);
+        course = subst (CourseBy (act ∷ h) b.calendar (reports b.month)) (sym is) (now.0, now.1, now.2, some_acts act h, now.4);
         lines = old.lines;
         cut_offs = old.cut_offs;
         charges = old.charges;
@@ -140,7 +145,7 @@ module _ (l : Ledger) (h : List Act) (old : Simulates h l.book) where
         numbers = (refl, old.numbers);
         trades = trades_alike _ _ _ _ _ _ _ _ _ _ _ (sym (one_more is_award act h refl)) (λ a. sym (told_figure (λ x. x.0) (eqb a (n + 1)) (kw, price) (latest (terms_of a) h) (0, 0))) (λ a. sym (told_figure (λ x. x.1) (eqb a (n + 1)) (kw, price) (latest (terms_of a) h) (0, 0))) (λ a g. sym (sum_by-cons (brought a g) act h)) (λ a g. refl) made;
         registers = old.registers;
-        course = subst (CourseBy (act ∷ h) b.calendar (reports b.month)) (sym is) now;
+        course = subst (CourseBy (act ∷ h) b.calendar (reports b.month)) (sym is) (now.0, now.1, now.2, some_acts act h, now.4);
         lines = old.lines;
         cut_offs = old.cut_offs;
         charges = old.charges;
@@ -150,13 +155,14 @@ module _ (l : Ledger) (h : List Act) (old : Simulates h l.book) where
   pub ceded_simulates : (a giver taker kw m : ℕ) → b.stage ≡ Month m Trading → Cedable b a giver taker kw → Simulates (ceded a giver taker kw ∷ h) (ceding.ceded b a giver taker kw)
   ceded_simulates a giver taker kw m is ok =
       let act = ceded a giver taker kw in
+      let now = subst At is old.course in
       let moved-kw = ceded_trades _ _ _ _ _ b a giver taker kw ok l.sized.0 l.wide old.trades in
       record {
         calendar = old.calendar;
         numbers = old.numbers;
         trades = trades_alike _ _ _ _ _ _ _ _ _ _ _ refl (λ x. refl) (λ x. refl) (λ x g. sym (sum_by-cons (brought x g) act h)) (λ x g. sym (sum_by-cons (lost x g) act h)) moved-kw;
         registers = old.registers;
-        course = subst (CourseBy (act ∷ h) b.calendar (reports b.month)) (sym is) (subst At is old.course);
+        course = subst (CourseBy (act ∷ h) b.calendar (reports b.month)) (sym is) (now.0, now.1, now.2, some_acts act h, now.4);
         lines = old.lines;
         cut_offs = old.cut_offs;
         charges = old.charges;

@@ -1,6 +1,5 @@
--- The law of the journal holds of every ledger and every journal recorded of it, at each point of the journal. Assumes
--- nothing.
-use Rattle.std.proofs.Common.{◌≡◌, ℕ, ◌+◌, ◌-◌, ◌<◌, ◌≤◌, List, [], ◌∷◌, length, Ok, sum_by, sum, count_by, Option, sym, ap, ◌∙◌, subst, arith}
+-- The law of the journal holds of every ledger and every journal recorded of it. Assumes nothing.
+use Rattle.std.proofs.Common.{◌≡◌, ℕ, ◌+◌, ◌-◌, ◌<◌, ◌≤◌, List, length, Ok, sum_by, sum, count_by, Option, sym, ap, ◌∙◌, subst, arith}
 use mathlib.Core.Path.{fun_ext}
 use Rattle.std.specs.List.{range_with_len}
 use Rattle.std.proofs.lemmas.List.Sums.{sum-map}
@@ -17,10 +16,10 @@ use Rattle.ledger.specs.Judged.{ruled}
 use Rattle.ledger.specs.Lines.{closed_months, line_rows, booked_line}
 use Rattle.ledger.specs.Readings.{holding_at}
 use Rattle.ledger.specs.Entries.{Journal}
-use Rattle.ledger.specs.Runs.{Recorded, made, noted}
+use Rattle.ledger.specs.Runs.{Recorded}
 use Rattle.ledger.proofs.CountingSums.{sum_by-map}
 use Rattle.journal.specs.Acts.{Act, acts, is_award, is_registering, is_closing, brought, lost}
-use Rattle.journal.specs.Law.{facilities, held, terms, firm, on, award_by, line, Staged, Holds, Law, Points}
+use Rattle.journal.specs.Law.{facilities, held, terms, firm, on, award_by, line, Staged, Holds, Law}
 use Rattle.journal.proofs.Bounded.{line_bounded}
 use Rattle.journal.proofs.Balance.{balance}
 use Rattle.journal.proofs.BookReadings.{read_line}
@@ -39,7 +38,7 @@ months_closed Finished n k a none unreported cut_off start now = sym now
 -- the stage is that of the course
 staged : (s : Stage) (h : List Act) (c : Calendar) (ms : List (Option Measured)) → CourseBy h c ms s → Staged s h
 staged Unopened h c ms now = now.0
-staged (Month m Trading) h c ms now = (now.0, now.1, now.2)
+staged (Month m Trading) h c ms now = (now.3, now.0, now.1, now.2)
 staged (Month m Metering) h c ms now = (now.0, now.1 ∙ sym now.0, now.2)
 staged (Month m Claims) h c ms now = (now.0, now.1 ∙ sym now.0, now.2 ∙ sym now.0)
 staged Finished h c ms now = now
@@ -115,7 +114,3 @@ module _ (h : List Act) (l : Ledger) (says : Simulates h l.book) where
 
 pub law : (j : Journal) (l : Ledger) → Recorded j l → Law j l
 law j l recorded = holds (acts j) l (simulated recorded)
-
-pub points : {j : Journal} {l : Ledger} → Recorded j l → Points j
-points (made l is) = (l, made l is, law [] l (made l is))
-points (noted j e l after before allowed) = ((after, noted j e l after before allowed, law (e ∷ j) after (noted j e l after before allowed)), points before)

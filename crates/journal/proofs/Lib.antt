@@ -18,4 +18,6 @@ pub mod Adding
 pub mod Flattened
 pub mod Totalling
 pub mod WorkedRun
+pub mod WorkedStages
 pub mod WorkedFigures
+pub mod WorkedCases

@@ -92,7 +92,7 @@ module _ (l : Ledger) (h : List Act) (old : Simulates h l.book) where
         numbers = old.numbers;
         trades = old.trades;
         registers = old.registers;
-        course = subst (λ s. CourseBy (cut ∷ h) b.calendar (reports b.month) (moved call.CutOff s)) (sym is) (now.0, one_more is_cut cut h refl ∙ ap (λ x. x + 1) now.1, now.2, cut_now m (now.0 ∙ ap (λ x. x + 1) (sym now.1)) now.3);
+        course = subst (λ s. CourseBy (cut ∷ h) b.calendar (reports b.month) (moved call.CutOff s)) (sym is) (now.0, one_more is_cut cut h refl ∙ ap (λ x. x + 1) now.1, now.2, cut_now m (now.0 ∙ ap (λ x. x + 1) (sym now.1)) now.4);
         lines = old.lines;
         cut_offs = λ k from to. old.cut_offs k from to ∙ sym (cond-false (eqb k (count_by is_cut h + 1)) h (before_nth is_cut k h) (ne_eqb k (count_by is_cut h + 1) (λ same. omega (arith, same, to, now.1))));
         charges = old.charges;

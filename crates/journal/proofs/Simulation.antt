@@ -39,10 +39,11 @@ pub record CutOff (h : List Act) (c : Calendar) (ms : List (Option Measured)) (m
   pub nth : before is_cut h ≡ before_nth is_cut m h
   pub results : ResultsBy h c ms m
 
--- A stage, with n closings, k cut-offs and a advances: before the opening there are no acts, and in trading no reports.
+-- A stage, with n closings, k cut-offs and a advances: before the opening there are no acts, in trading there are some, and
+-- no reports.
 abbrev pub Course : Stage → ℕ → ℕ → ℕ → Type 0 → Type 0 → (ℕ → Type 0) → Type 0
 Course Unopened n k a none unreported cut_off = none × unreported
-Course (Month m Trading) n k a none unreported cut_off = (m ≡ n + 1) × (k ≡ n) × (a ≡ n) × unreported
+Course (Month m Trading) n k a none unreported cut_off = (m ≡ n + 1) × (k ≡ n) × (a ≡ n) × (¬ none) × unreported
 Course (Month m Metering) n k a none unreported cut_off = (m ≡ n + 1) × (k ≡ n + 1) × (a ≡ n) × cut_off m
 Course (Month m Claims) n k a none unreported cut_off = (m ≡ n + 1) × (k ≡ n + 1) × (a ≡ n + 1) × cut_off m
 Course Finished n k a none unreported cut_off = n ≡ 12

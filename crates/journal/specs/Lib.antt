@@ -2,3 +2,4 @@ pub mod Acts
 pub mod Law
 pub mod Totals
 pub mod Worked
+pub mod Cases

@@ -5,7 +5,7 @@ use crate::print::print_rows;
 use crate::year::Year;
 use anyhow::anyhow;
 use calendar::COMMON_YEAR;
-use journal::worked_run;
+use journal::{law_cases, worked_run};
 use ledger::{Ledger, LedgerFault, MOST_MODULES, Module, Refusal};
 use metering::{Kind, Thermal, ThermalHour};
 use sharing::{Remainder, Row, Running};
@@ -28,6 +28,7 @@ const PRICE: u32 = 12;
 /// Makes the run, and prints its lines, its charges and its totals.
 pub fn print_run(rt: &HostRuntime) -> anyhow::Result<()> {
     worked_run();
+    law_cases();
     println!(rt; "The worked run")?;
     let mut year = Year::new(rt);
     let mut rows = [buyer(1, 1), buyer(2, 1), buyer(3, 1)];
