@@ -1,10 +1,15 @@
--- What the laws of sharing allow and what they do not, by cases at their limits and just beside them. Serves
--- src/lib.rt. Assumes nothing.
-use Rattle.std.specs.Prelude.{ℕ, Bool, true, false, List, [], ◌∷◌, replicate}
+-- What calendars and the laws of sharing allow and what they do not, by cases at their limits and just beside them.
+-- Serves src/lib.rt.
+use Rattle.std.specs.Prelude.{ℕ, ◌*◌, Bool, true, false, List, [], ◌∷◌, map, replicate}
+use Rattle.std.specs.List.{range_with_len}
+use Rattle.calendar.specs.declared.run.Run.{Run}
+use Rattle.calendar.specs.Form.{IsInForm}
 use Rattle.sharing.specs.Rule.{Shareable, Near, Lawful}
 use Rattle.sharing.specs.Remainder.{Fair}
 
 pub data Case : Type 0 where
+  -- a calendar of so many hours may have these runs
+  calendar : (year : ℕ) (runs : List Run) (is_so : Bool) → Case
   -- a rule can be asked to share a total over rows of these MWh
   shareable : (total : ℕ) (mwhs : List ℕ) (is_so : Bool) → Case
   -- a charge is less than a cent from the exact share that a weight has among all
@@ -21,10 +26,31 @@ Is false P = P → ⊥
 
 -- what it is for a case to be decided rightly
 abbrev pub Decided : Case → Type 0
+Decided (calendar year runs is_so) = Is is_so (IsInForm (record { year_hours = year; runs = runs }))
 Decided (shareable total ms is_so) = Is is_so (Shareable total ms)
 Decided (near total all weight charge is_so) = Is is_so (Near total all weight charge)
 Decided (lawful total ms weights charges is_so) = Is is_so (Lawful total ms weights charges)
 Decided (fair total ms charges is_so) = Is is_so (Fair total ms charges)
+
+-- a run of stress hours
+abbrev pub run : ℕ → ℕ → Run
+run from hours = record { first = from; len = hours }
+
+-- n runs of two hours, twenty hours apart
+abbrev pub short_runs : ℕ → List Run
+short_runs n = map (λ i. run (20 * i) 2) (range_with_len 0 n)
+
+abbrev pub calendar_cases : List Case
+calendar_cases =
+    calendar 8_760 (run 0 438 ∷ []) true
+    ∷ calendar 8_761 (run 0 438 ∷ []) false
+    ∷ calendar 8_760 (short_runs 367) false
+    ∷ calendar 8_760 (run 0 438 ∷ run 500 0 ∷ []) false
+    ∷ calendar 8_760 (run 8_323 438 ∷ []) false
+    ∷ calendar 8_760 (run 0 438 ∷ run 438 1 ∷ []) false
+    ∷ calendar 8_760 (run 0 437 ∷ []) false
+    ∷ calendar 8_760 (run 0 877 ∷ []) false
+    ∷ []
 
 -- three rows, or weights, of 1
 abbrev pub ones : List ℕ

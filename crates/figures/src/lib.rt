@@ -5,15 +5,16 @@
 
 ghost use Rattle.std.specs.List.{AllByRecursion};
 ghost use Rattle.figures.specs.Figures.{Holds, figures};
-ghost use Rattle.figures.specs.Laws.{Decided, shareable_cases, near_cases, lawful_cases, fair_cases};
+ghost use Rattle.figures.specs.Laws.{Decided, calendar_cases, shareable_cases, near_cases, lawful_cases, fair_cases};
 
 /// Does nothing: every worked figure holds.
 pub fn worked_figures()
     ensures { AllByRecursion Holds figures }
 {}
 
-/// Does nothing: the laws of sharing allow what they should, and no more.
+/// Does nothing: calendars and the laws of sharing allow what they should, and no more.
 pub fn worked_laws()
+    ensures calendar { AllByRecursion Decided calendar_cases }
     ensures shareable { AllByRecursion Decided shareable_cases }
     ensures near { AllByRecursion Decided near_cases }
     ensures lawful { AllByRecursion Decided lawful_cases }

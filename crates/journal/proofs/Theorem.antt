@@ -1,6 +1,6 @@
 -- The law of the journal, by induction on its entries: every book that a journal is recorded of has what the journal's acts
 -- say.
-use Rattle.std.proofs.Common.{◌≡◌, ℕ, ◌+◌, Bool, true, false, ◌&&◌, eqb, ltb, List, [], ◌∷◌, length, None, Ok, Err, sum, Result, sym, refl, ap, ◌∙◌, subst, inl, inr, arith}
+use Rattle.std.proofs.Common.{◌≡◌, ℕ, ◌+◌, Bool, ◌&&◌, eqb, ltb, List, [], ◌∷◌, length, None, Ok, Err, sum, Result, sym, refl, ap, ◌∙◌, subst, inl, inr, arith}
 use Rattle.std.proofs.lemmas.Bool.{cases_Bool, cond-true, cond-false, eqb-false, ltb-false, and_cases}
 use Rattle.metering.specs.declared.measuring.Measured.{Measured}
 use Rattle.metering.specs.declared.fault.MeteringFault.{MeteringFault}

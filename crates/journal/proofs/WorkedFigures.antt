@@ -1,5 +1,5 @@
 -- What the words of the law say of the worked run, computed, and what the law makes of them.
-use Rattle.std.proofs.Common.{◌≡◌, ℕ, ◌+◌, ◌-◌, true, false, [], ◌∷◌, length, Ok, sum_by, refl, ap, ◌∙◌, arith, lit≤}
+use Rattle.std.proofs.Common.{◌≡◌, ◌+◌, ◌-◌, [], ◌∷◌, length, Ok, sum_by, refl, ap, ◌∙◌, arith, lit≤}
 use Rattle.calendar.specs.Calendar.{Calendar}
 use Rattle.calendar.specs.Months.{first_months}
 use Rattle.calendar.specs.Stress.{stress_hours}

@@ -1,5 +1,5 @@
 -- The worked run, recorded step by step by computing what each call answers and leaves. Assumes nothing.
-use Rattle.std.proofs.Common.{ℕ, ◌-◌, true, [], ◌∷◌, Ok, refl, ◌∙◌, arith, lit≤}
+use Rattle.std.proofs.Common.{ℕ, ◌-◌, true, [], ◌∷◌, refl, ◌∙◌, lit≤}
 use Rattle.std.proofs.lemmas.List.{length-set}
 use Rattle.calendar.specs.Filling.{given_year}
 use Rattle.calendar.specs.Months.{first_months}
@@ -8,7 +8,6 @@ use Rattle.sharing.specs.RemainderLaws.{remainder_lawful}
 use Rattle.ledger.specs.declared.kept.Ledger.{Ledger}
 use Rattle.ledger.specs.declared.state.Stage.TheVariants.{Month}
 use Rattle.ledger.specs.declared.state.Phase.TheVariants.{Trading, Metering, Claims}
-use Rattle.ledger.specs.Entries as entry
 use Rattle.ledger.specs.Changes.{with_stage, with_month}
 use Rattle.ledger.specs.Making.{blank}
 use Rattle.ledger.specs.Opening as opening

@@ -1,6 +1,11 @@
 use Rattle.std.proofs.Common.{arith}
 use Rattle.figures.proofs.Sharing.{most_shareable, rows_shareable, rows_too_many, near_at, not_under, not_over, running_thirds, remainder_thirds, weight_too_many, charge_too_many, weighs_too_much, cent_lost, cent_away, cent_of_nothing, larger_first, below_its_share, not_given_out, two_to_one_row, smaller_first, later_first}
+use Rattle.figures.proofs.Calendars.{one_run, no_year, too_many, no_hour, past_the_year, touching, too_few_hours, too_many_hours}
 use Rattle.figures.proofs.worked_laws.Goals as goal
+
+pub returns-clause-calendar : goal.returns-clause-calendar
+returns-clause-calendar c =
+    (one_run, (no_year, (too_many, (no_hour, (past_the_year, (touching, (too_few_hours, (too_many_hours, tt))))))))
 
 pub returns-clause-shareable : goal.returns-clause-shareable
 returns-clause-shareable c =
