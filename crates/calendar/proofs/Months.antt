@@ -1,21 +1,11 @@
 -- The hours of the months: how many, and in order.
-use Rattle.std.proofs.Common.{◌≡◌, ℕ, ◌-◌, ◌*◌, ◌<◌, ◌≤◌, min, true, List, take, sum, sym, refl, ap, ◌∙◌, subst, inl, inr, arith}
+use Rattle.std.proofs.Common.{◌≡◌, ℕ, ◌-◌, ◌*◌, ◌<◌, ◌≤◌, min, true, List, take, sum, sym, ap, ◌∙◌, inl, inr, arith}
 use Rattle.std.proofs.lemmas.List.{take-take, take_all}
 use Rattle.std.proofs.lemmas.List.Sums.{sum_by-take-le}
-use Rattle.std.proofs.lemmas.Bool.{cases_eq, cases_lt}
+use Rattle.std.proofs.lemmas.Bool.{cases_lt}
 use Rattle.std.proofs.lemmas.Bool.Decides.{nat_tests}
 use Rattle.calendar.specs.Form.{is_year}
 use Rattle.calendar.specs.Months.{days, first_months, month_begins, month_ends}
-
--- a year that is not a common one is a leap year
-leap : (year : ℕ) → is_year year ≡ true → (year ≡ 8760 → ⊥) → year ≡ 8784
-leap year right other = grind (arith, nat_tests)
-
--- the twelve months have the hours of the year
-pub year_days : (year : ℕ) → is_year year ≡ true → 24 * sum (days year) ≡ year
-year_days year right =
-    let Adds : ℕ → Type 0 = λ y. 24 * sum (days y) ≡ y in
-    elim (cases_eq year 8760) [ inl common ↦ subst Adds (sym common) refl | inr other ↦ subst Adds (sym (leap year right other)) refl ]
 
 -- a year has at most 8,784 hours
 pub year_most : (year : ℕ) → is_year year ≡ true → year ≤ 8784

@@ -45,7 +45,7 @@ impl Calendar {
     /// The hours of the year.
     pub fn year_hours(&self) -> u32
         ensures value { result ≡ self.now.year_hours }
-        ensures in_form { IsInForm self.now }
+        ensures kept { IsInForm self.now }
     {
         self.year_hours
     }

@@ -16,7 +16,7 @@ one_run = record {
   share = refl;
 }
 
-pub no_year : InForm 8_761 (run 0 438 ∷ []) → ⊥
+pub no_year : InForm 8_761 (run 0 439 ∷ []) → ⊥
 no_year ok = false≢true ok.year
 
 pub too_many : InForm 8_760 (short_runs 367) → ⊥

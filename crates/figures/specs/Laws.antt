@@ -43,7 +43,7 @@ short_runs n = map (λ i. run (20 * i) 2) (range_with_len 0 n)
 abbrev pub calendar_cases : List Case
 calendar_cases =
     calendar 8_760 (run 0 438 ∷ []) true
-    ∷ calendar 8_761 (run 0 438 ∷ []) false
+    ∷ calendar 8_761 (run 0 439 ∷ []) false
     ∷ calendar 8_760 (short_runs 367) false
     ∷ calendar 8_760 (run 0 438 ∷ run 500 0 ∷ []) false
     ∷ calendar 8_760 (run 8_323 438 ∷ []) false

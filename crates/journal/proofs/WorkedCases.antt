@@ -1,5 +1,5 @@
 -- The law allows none of the wrong cases, and leaves nothing open in the others.
-use Rattle.std.proofs.Common.{◌≡◌, ℕ, ◌≤◌, true, List, [], ◌∷◌, length, refl, sym, ap, ◌∙◌, arith, lit≤}
+use Rattle.std.proofs.Common.{◌≡◌, ℕ, ◌≤◌, true, List, [], ◌∷◌, length, refl, sym, ap, ◌∙◌, arith, lit≤, replicate}
 use Rattle.calendar.specs.Calendar.{Calendar}
 use Rattle.calendar.specs.Months.{first_months}
 use Rattle.calendar.specs.Stress.{stress_hours}
@@ -12,18 +12,18 @@ use Rattle.ledger.specs.Entries.{Rule, Reported}
 use Rattle.journal.specs.Acts.{switched, awarded, ceded, cut, reported, advanced, closed, acts}
 use Rattle.journal.specs.Law.{facilities, line, Opened}
 use Rattle.journal.specs.Worked.{buyers, running, remainder, february, advanced_february, journal, Says}
-use Rattle.journal.specs.Cases.{start, won, idle_advance, idle_month, fixed, ones, ChargeCases, NoBook, LawCases}
+use Rattle.journal.specs.Cases.{start, won, idle_advance, idle_month, fixed, ChargeCases, NoBook, LawCases}
 use Rattle.journal.proofs.Charging.{charged_lawfully}
 use Rattle.journal.proofs.WorkedStages.{unopened_at, trading_at, metering_at, claims_at, nowhere}
 use Rattle.journal.proofs.WorkedFigures.{total}
 
 -- charges of 74 cents over three weights of 1 that a rule may make
-thirds : Lawful 74 ones ones (25 ∷ 25 ∷ 24 ∷ [])
-thirds = remainder_lawful 74 ones (record { cents = omega arith; rows = omega arith; mwh = omega arith })
+thirds : Lawful 74 (replicate 3 1) (replicate 3 1) (25 ∷ 25 ∷ 24 ∷ [])
+thirds = remainder_lawful 74 (replicate 3 1) (record { cents = omega arith; rows = omega arith; mwh = omega arith })
 
 charge_cases : (c : Calendar) → Opened c (acts journal) → ChargeCases c
 charge_cases c opens = record {
-  lawful = charged_lawfully c (acts february) 2 (fixed ones (25 ∷ 25 ∷ 24 ∷ [])) (buyers 0 0 0) 74 (buyers 25 25 24) (sym (total c opens)) refl (λ none. absurd (omega (arith, none))) thirds;
+  lawful = charged_lawfully c (acts february) 2 (fixed (replicate 3 1) (25 ∷ 25 ∷ 24 ∷ [])) (buyers 0 0 0) 74 (buyers 25 25 24) (sym (total c opens)) refl (λ none. absurd (omega (arith, none))) thirds;
   weight_missing = λ bad. let long : 2 ≡ 3 = bad.weight_each in omega (arith, long);
   weight_too_many = λ bad. let long : 4 ≡ 3 = bad.weight_each in omega (arith, long);
   charge_missing = λ bad. let long : 3 ≡ 2 = ap length bad.its_charges in omega (arith, long);

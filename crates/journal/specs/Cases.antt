@@ -1,5 +1,5 @@
--- What the law makes of acts that stand beside those of a ledger: it allows none that are wrong in one thing, and leaves
--- nothing open where one thing is not given. Serves src/worked.rt.
+-- Cases of the law: acts and charges that are wrong in one thing, which it does not allow, and acts in which one thing is
+-- not given, of which it says what that is. Serves src/worked.rt.
 use Rattle.std.specs.Prelude.{◌≡◌, ℕ, ◌≤◌, true, List, [], ◌∷◌, length, replicate}
 use Rattle.calendar.specs.Calendar.{Calendar}
 use Rattle.calendar.specs.Stress.{stress_hours}
@@ -36,30 +36,26 @@ NoBook h = Says h (λ b. ⊥)
 abbrev pub fixed : List ℕ → List ℕ → Rule
 fixed ws cs = record { weights = λ total ms. ws; charges = λ total ms. cs }
 
--- three weights of 1
-abbrev pub ones : List ℕ
-ones = 1 ∷ 1 ∷ 1 ∷ []
-
 -- February's 74 cents are charged to these rows, by these weights and charges
 abbrev pub FebruaryCharged : Calendar → List Row → List ℕ → List ℕ → Type 0
 FebruaryCharged c rows ws cs = Charged c (acts february) 2 (fixed ws cs) rows 74 (put_in rows cs)
 
 -- Charges that are lawful, and charges that are wrong in one thing.
 pub record ChargeCases (c : Calendar) : Type 0 where
-  pub lawful : FebruaryCharged c (buyers 0 0 0) ones (25 ∷ 25 ∷ 24 ∷ [])
+  pub lawful : FebruaryCharged c (buyers 0 0 0) (replicate 3 1) (25 ∷ 25 ∷ 24 ∷ [])
   pub weight_missing : ¬ FebruaryCharged c (buyers 0 0 0) (1 ∷ 1 ∷ []) (37 ∷ 37 ∷ 0 ∷ [])
   pub weight_too_many : ¬ FebruaryCharged c (buyers 0 0 0) (1 ∷ 1 ∷ 1 ∷ 0 ∷ []) (25 ∷ 25 ∷ 24 ∷ [])
   -- the last row would keep the charge that it had
-  pub charge_missing : ¬ FebruaryCharged c (buyers 0 0 24) ones (25 ∷ 25 ∷ [])
-  pub charge_too_many : ¬ FebruaryCharged c (buyers 0 0 0) ones (25 ∷ 25 ∷ 24 ∷ 0 ∷ [])
-  pub cent_lost : ¬ FebruaryCharged c (buyers 0 0 0) ones (24 ∷ 24 ∷ 25 ∷ [])
-  pub cent_made : ¬ FebruaryCharged c (buyers 0 0 0) ones (25 ∷ 25 ∷ 25 ∷ [])
+  pub charge_missing : ¬ FebruaryCharged c (buyers 0 0 24) (replicate 3 1) (25 ∷ 25 ∷ [])
+  pub charge_too_many : ¬ FebruaryCharged c (buyers 0 0 0) (replicate 3 1) (25 ∷ 25 ∷ 24 ∷ 0 ∷ [])
+  pub cent_lost : ¬ FebruaryCharged c (buyers 0 0 0) (replicate 3 1) (24 ∷ 24 ∷ 25 ∷ [])
+  pub cent_made : ¬ FebruaryCharged c (buyers 0 0 0) (replicate 3 1) (25 ∷ 25 ∷ 25 ∷ [])
   -- exactly one cent from the exact shares, 37 each
   pub cent_away : ¬ FebruaryCharged c (buyers 0 0 0) (1 ∷ 1 ∷ 0 ∷ []) (36 ∷ 38 ∷ 0 ∷ [])
   -- a cent to each of 74 rows, where nothing weighs
   pub cent_of_nothing : ¬ FebruaryCharged c (replicate 74 (buyer 1 0)) (replicate 74 0) (replicate 74 1)
 
--- Acts that no ledger can have made, each wrong in one thing, and what follows where one thing is not given.
+-- Acts that the law allows of no book, and what it says of a book where one thing is not given.
 pub record LawCases : Type 0 where
   -- the calendar before the opening; the stage before it and at each point of a month; an advance without a cut-off
   pub new_year : Says [] (λ b. (b.calendar.year_hours ≡ 8_760) × (length (stress_hours b.calendar 1) ≡ 744))

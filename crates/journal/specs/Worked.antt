@@ -48,7 +48,7 @@ remainder = record { weights = λ total ms. ms; charges = λ total ms. by_remain
 abbrev pub at_kw : ℕ → Reported
 at_kw kw = meant 84 3 24 thermal_credit (record { declared = kw; least = 100 } ∷ []) None
 
--- month 1, up to its closing; one award is refused, since it is too small
+-- month 1; one award is refused, since it is too small
 abbrev pub month_one : Journal
 month_one =
     closing running (buyers 0 0 0) (Ok 100) (buyers 33 33 34)
@@ -61,7 +61,7 @@ month_one =
     ∷ registering 84 modules 1 2_000 (Ok 1)
     ∷ opening 8_760 (1_415 ∷ []) (438 ∷ []) (Ok tt) ∷ []
 
--- month 2, up to its advance
+-- month 2, before its advance
 abbrev pub february : Journal
 february =
     reporting 2 (at_kw 240) (Ok tt)
@@ -69,7 +69,7 @@ february =
     ∷ reporting 1 (at_kw 500) (Ok tt)
     ∷ cutting (Ok tt) ∷ ceding 1 1 2 500 (Ok tt) ∷ switching 2 true (Ok tt) ∷ month_one
 
--- and up to its closing
+-- and before its closing
 abbrev pub advanced_february : Journal
 advanced_february = advancing running (buyers 33 33 34) (Ok 74) (buyers 24 25 25) ∷ february
 

@@ -7,7 +7,7 @@ pub fn worked_run()
     ensures { WorkedRun }
 {}
 
-/// Does nothing: the law allows no acts that are wrong in one thing, and leaves nothing open that the cases ask.
+/// Does nothing: the law decides each case as it should.
 pub fn law_cases()
     ensures { LawCases }
 {}

@@ -11,13 +11,13 @@ use Rattle.ledger.specs.Course.{moved}
 use Rattle.ledger.specs.Changes.{with_calendar, with_stage}
 
 -- a calendar that was filled is taken; a fault of the calendar is carried whole
-abbrev pub filled : Result (Unit {0}) CalendarFault → Result (Unit {0}) LedgerFault
-filled (Ok _) = Ok tt
-filled (Err f) = Err (fault.Calendar f)
+abbrev pub fill_answer : Result (Unit {0}) CalendarFault → Result (Unit {0}) LedgerFault
+fill_answer (Ok _) = Ok tt
+fill_answer (Err f) = Err (fault.Calendar f)
 
 -- what opening a year answers, unless the ledger was opened before
 abbrev pub year_answer : ℕ → List ℕ → List ℕ → Result (Unit {0}) LedgerFault
-year_answer year firsts lengths = filled (judged (fill_rows year firsts lengths) tt)
+year_answer year firsts lengths = fill_answer (judged (fill_rows year firsts lengths) tt)
 
 -- the calendar is of the year that was given, and month 1 is in trading
 abbrev pub opened : Book → ℕ → List ℕ → List ℕ → Book

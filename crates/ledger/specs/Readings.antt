@@ -16,5 +16,5 @@ holding_of b a f =
     cond (given_out a (length b.trade.items) && given_out f (length b.register.items)) (Some (holding_at b a f)) None
 
 -- the lines of the closed months, in their order
-abbrev pub closed_lines : Book → List (List Line)
-closed_lines b = take (closed_months b.stage) b.lines
+abbrev pub lines_or_zeros : Book → List (List Line)
+lines_or_zeros b = take (closed_months b.stage) b.lines

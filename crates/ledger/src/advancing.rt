@@ -1,5 +1,5 @@
 //! The advance: a month's total, shared before the claims.
-ghost use Rattle.std.specs.Prelude.{◌≡◌, ◌∷◌};
+ghost use Rattle.std.specs.Prelude.{◌≡◌, ◌≤◌, ◌∷◌, length, OnOk};
 ghost use Rattle.sharing.specs.Rows.{mwhs, charged};
 ghost use Rattle.ledger.specs.Judged.{ruled, kept_or};
 ghost use Rattle.ledger.specs.Settling.{total_now, shared};
@@ -11,7 +11,7 @@ use crate::LedgerFault;
 use crate::course::{Call, turn};
 use crate::kept::Ledger;
 use crate::settling::share_within;
-use sharing::{Row, SharingRule};
+use sharing::{MOST_ROWS, Row, SharingRule};
 
 impl Ledger {
     /// Moves on to claims, writes each buyer's charge of the month so far into its row, and answers the month's total.
@@ -23,6 +23,7 @@ impl Ledger {
         rows: &mut [Row],
     ) -> Result<u64, LedgerFault>
         ensures answer { result ≡ ruled (advance_rows self.old.book rows.old) (shared (total_now self.old.book) (R.weights rule.now (total_now self.old.book) (mwhs rows.old))) }
+        ensures most { OnOk result (length rows.old ≤ MOST_ROWS) }
         ensures rows { rows.new ≡ kept_or result (charged rows.old (R.charges rule.now (total_now self.old.book) (mwhs rows.old))) rows.old }
         ensures after { self.new.book ≡ kept_or result (advanced self.old.book) self.old.book }
         ensures recorded { (j : Journal) → Recorded j self.old → Recorded (advancing (record { weights = R.weights rule.now; charges = R.charges rule.now }) rows.old result rows.new ∷ j) self.new }

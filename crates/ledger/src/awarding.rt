@@ -27,7 +27,7 @@ impl Ledger {
         ensures full { (result ≡ Err (LedgerFault.Own Refusal.NoRoom))
             ↔ (IsTrue (belongs Call.Award self.old.book.stage)
             × IsTrue (given_out facility (length self.old.book.register.items))
-            × (length self.old.book.trade.items ≡ «MOST_AWARDS»)) }
+            × (length self.old.book.trade.items ≡ MOST_AWARDS)) }
         ensures recorded { (j : Journal) → Recorded j self.old → Recorded (awarding facility kw price result ∷ j) self.new }
     {
         let holder = self.may_award(facility, kw, price)?;

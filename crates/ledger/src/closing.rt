@@ -1,5 +1,5 @@
 //! Closing a month.
-ghost use Rattle.std.specs.Prelude.{◌≡◌, ◌∷◌};
+ghost use Rattle.std.specs.Prelude.{◌≡◌, ◌≤◌, ◌∷◌, length, OnOk};
 ghost use Rattle.sharing.specs.Rows.{mwhs, charged};
 ghost use Rattle.ledger.specs.Judged.{judged, ruled, kept_or};
 ghost use Rattle.ledger.specs.Course.{moved};
@@ -16,13 +16,14 @@ use crate::numbers::MonthNumber;
 use crate::settling::share_within;
 use crate::state::{Book, Claim, Line, MOST_FACILITIES, Stage};
 use crate::{LedgerFault, Refusal};
-use sharing::{Row, SharingRule};
+use sharing::{MOST_ROWS, Row, SharingRule};
 
 impl Ledger {
     /// Books the month, writes each buyer's charge into its row, starts the next month, and answers the month's total.
     #[tactic(auto, using(crate::specs::Runs::noted))]
     pub fn close<R: SharingRule>(&mut self, rule: &R, rows: &mut [Row]) -> Result<u64, LedgerFault>
         ensures answer { result ≡ ruled (close_rows self.old.book rows.old) (shared (total_now self.old.book) (R.weights rule.now (total_now self.old.book) (mwhs rows.old))) }
+        ensures most { OnOk result (length rows.old ≤ MOST_ROWS) }
         ensures rows { rows.new ≡ kept_or result (charged rows.old (R.charges rule.now (total_now self.old.book) (mwhs rows.old))) rows.old }
         ensures after { self.new.book ≡ kept_or result (closed self.old.book) self.old.book }
         ensures recorded { (j : Journal) → Recorded j self.old → Recorded (closing (record { weights = R.weights rule.now; charges = R.charges rule.now }) rows.old result rows.new ∷ j) self.new }

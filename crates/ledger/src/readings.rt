@@ -2,7 +2,7 @@
 ghost use Rattle.std.specs.Prelude.{◌≡◌, ◌↔◌, length, All};
 ghost use Rattle.ledger.specs.Form.{Bounded};
 ghost use Rattle.ledger.specs.Lines.{closed_months};
-ghost use Rattle.ledger.specs.Readings.{holding_of, closed_lines};
+ghost use Rattle.ledger.specs.Readings.{holding_of, lines_or_zeros};
 
 use crate::kept::Ledger;
 use crate::state::{Line, MOST_FACILITIES, Stage};
@@ -48,9 +48,9 @@ impl Ledger {
     }
 
     /// The lines of the closed months, in their order: of each month one for every number that a facility can have, two
-    /// zeros for one that was not given out.
-    pub fn closed_lines(&self) -> &[[Line; MOST_FACILITIES]]
-        ensures value { result.now ≡ closed_lines self.now.book }
+    /// zeros for one that was not given out by then.
+    pub fn lines_or_zeros(&self) -> &[[Line; MOST_FACILITIES]]
+        ensures value { result.now ≡ lines_or_zeros self.now.book }
         ensures bound { All (All Bounded) result.now }
     {
         &self.book.lines.months[..self.closed_months() as usize]

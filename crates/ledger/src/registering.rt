@@ -53,8 +53,8 @@ impl Ledger {
         ensures after { self.new.book ≡ kept_or result (registered self.old.book letter (firm_power modules count access)) self.old.book }
         ensures full { (result ≡ Err (LedgerFault.Own Refusal.NoRoom))
             ↔ (IsTrue (belongs Call.Register self.old.book.stage)
-            × (length self.old.book.register.items ≡ «MOST_FACILITIES»)) }
-        ensures count { IsTrue (right_count count) ↔ ((1 ≤ count) × (count ≤ «MOST_MODULES»)) }
+            × (length self.old.book.register.items ≡ MOST_FACILITIES)) }
+        ensures count { IsTrue (right_count count) ↔ ((1 ≤ count) × (count ≤ MOST_MODULES)) }
         ensures recorded { (j : Journal) → Recorded j self.old → Recorded (registering letter modules count access result ∷ j) self.new }
     {
         let figures = Figures {

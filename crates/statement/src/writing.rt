@@ -25,8 +25,8 @@ pub fn write(month: u32, lines: &[Line], out: &mut [u8]) -> Result<usize, Statem
     ensures distinct { Distinct }
 
     // `MOST_BYTES` are enough for any lines, and some lines need them all.
-    ensures enough { «MOST_BYTES» ≤ length out.old → result ≢ Err Buffer }
-    ensures needed { (ls : List Line) × (within 1 ls ≡ true) × (length (encoding 1 ls) ≡ «MOST_BYTES») }
+    ensures enough { MOST_BYTES ≤ length out.old → result ≢ Err Buffer }
+    ensures needed { (ls : List Line) × (within 1 ls ≡ true) × (length (encoding 1 ls) ≡ MOST_BYTES) }
 {
     if !is_within(month, lines) {
         return Err(StatementFault::Limits);

@@ -35,8 +35,8 @@ impl Calendar {
     ) -> Result<(), CalendarFault>
         ensures answer { result ≡ judged (fill_rows year_hours firsts.now lengths.now) tt }
         ensures after { self.new ≡ kept_or result (given_year year_hours firsts.now lengths.now) self.old }
-        ensures years { OnOk result ((year_hours ≡ «COMMON_YEAR») ⊎ (year_hours ≡ «LEAP_YEAR»)) }
-        ensures most { OnOk result (length firsts.now ≤ «MOST_RUNS») }
+        ensures years { OnOk result ((year_hours ≡ COMMON_YEAR) ⊎ (year_hours ≡ LEAP_YEAR)) }
+        ensures most { OnOk result (length firsts.now ≤ MOST_RUNS) }
     {
         *self = year_of(year_hours, firsts, lengths)?;
         Ok(())

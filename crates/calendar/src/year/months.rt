@@ -34,7 +34,7 @@ impl Calendar {
         ensures ends { result.end ≡ month_ends self.now.year_hours month }
         ensures bound { result.end ≤ self.now.year_hours }
         ensures most { result.end ≤ 8_784 }
-        ensures outside { «MONTHS» < month → result.start ≡ result.end }
+        ensures outside { MONTHS < month → result.start ≡ result.end }
     {
         self.month_begins(month)..self.month_ends(month)
     }

@@ -12,7 +12,7 @@ impl Calendar {
     /// The runs of stress hours.
     pub fn runs(&self) -> &[Run]
         ensures value { result.now ≡ self.now.runs }
-        ensures in_form { IsInForm self.now }
+        ensures kept { IsInForm self.now }
     {
         self.runs.as_slice()
     }

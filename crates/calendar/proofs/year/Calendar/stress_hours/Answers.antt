@@ -13,5 +13,5 @@ returns c =
     let parts : flat_map (part month.start month.end) (iter_rest c.iter.result) ≡ stress_hours year c.args.month =
     ap (flat_map (part month.start month.end)) (c.iter.ensures.rest ∙ c.runs.ensures.value)
     ∙ ap₂ (λ (from to : ℕ). flat_map (part from to) year.runs) c.month_hours.ensures.begins c.month_hours.ensures.ends
-    ∙ sym (stress_hours_parts year c.runs.ensures.in_form c.args.month) in
+    ∙ sym (stress_hours_parts year c.runs.ensures.kept c.args.month) in
     search rules
