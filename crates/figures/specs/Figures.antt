@@ -8,10 +8,8 @@ use Rattle.calendar.specs.Filling.{fill_rows}
 use Rattle.metering.specs.declared.fault.MeteringFault.TheVariants.{Test}
 use Rattle.metering.specs.Fault as metering
 use Rattle.metering.specs.Testing.{failed}
-use Rattle.sharing.specs.declared.running.Running.{Running}
-use Rattle.sharing.specs.declared.remainder.Remainder.{Remainder}
-use Rattle.sharing.specs.Running.{running_charges}
-use Rattle.sharing.specs.Remainder.{remainder_charges}
+use Rattle.sharing.specs.Running.{running_meaning}
+use Rattle.sharing.specs.Remainder.{remainder_meaning}
 use Rattle.sharing.specs.Split.{split}
 use Rattle.sharing.specs.declared.fault.SharingFault.TheVariants.{NoWeight}
 use Rattle.sharing.specs.Fault as sharing
@@ -57,8 +55,8 @@ Holds (firm modules access kw) = firm_power modules (length modules) access ≡ 
 Holds (test ordered delivered is_failed) = failed (record { ordered = ordered; delivered = delivered }) ≡ is_failed
 Holds (earn kw price month cents) = amount kw price month ≡ cents
 Holds (share total kw held cents) = split total kw held ≡ cents
-Holds (running total ms charges) = (rule : Running) → running_charges rule total ms ≡ charges
-Holds (remainder total ms charges) = (rule : Remainder) → remainder_charges rule total ms ≡ charges
+Holds (running total ms charges) = running_meaning.charges total ms ≡ charges
+Holds (remainder total ms charges) = remainder_meaning.charges total ms ≡ charges
 Holds (printed refusal text) = refusal ≡ text
 
 abbrev pub figures : List Figure

@@ -1,5 +1,4 @@
--- Opening, registering, switching, awarding and ceding: the book has what the journal says with that act on top. Assumes
--- nothing.
+-- Opening, registering, switching, awarding and ceding: the book has what the journal says with that act on top.
 use Rattle.std.proofs.Common.{◌≡◌, ℕ, ◌+◌, ◌<◌, ◌≤◌, Bool, true, false, eqb, List, [], ◌∷◌, length, count_by, sym, refl, ap, ◌∙◌, subst, arith}
 use Rattle.std.proofs.lemmas.List.Sums.{sum_by-cons}
 use Rattle.std.proofs.lemmas.Bool.{false≢true}

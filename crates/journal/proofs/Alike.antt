@@ -1,4 +1,4 @@
--- The awards of a trade are those of its journal. Assumes nothing.
+-- The awards of a trade are those of its journal.
 use Rattle.std.proofs.Common.{◌≡◌, ℕ, ◌+◌, ◌<◌, List, map, length, get_or, sum_by, count_by, sym, ◌∙◌, arith}
 use Rattle.std.specs.List.{range_with_len}
 use Rattle.std.proofs.lemmas.List.{ext_get_or}

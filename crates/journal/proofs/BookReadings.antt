@@ -1,4 +1,4 @@
--- What reading a line answers for a facility that was given out and a month that is closed. Assumes nothing.
+-- What reading a line answers for a facility that was given out and a month that is closed.
 use Rattle.std.proofs.Common.{◌≡◌, ℕ, ◌≤◌, Bool, true, false, not, leb, [], ◌∷◌, length, Ok, Err, Result, refl, ◌∙◌, arith}
 use Rattle.std.proofs.lemmas.Bool.{and_from, cond-false, le-leb, not_from_true}
 use Rattle.ledger.specs.declared.refusal.Refusal.{Refusal}

@@ -1,4 +1,4 @@
--- The sum of what a closure answers of each line of each month. Assumes nothing.
+-- The sum of what a closure answers of each line of each month.
 use Rattle.std.proofs.Common.{◌≡◌, ℕ, ◌+◌, ◌^◌, ◌<◌, false, List, map, None, Iter, sum_by, ◌∙◌, arith}
 use denote.Param.Members.{Mut}
 use denote.Ref.{Bor}

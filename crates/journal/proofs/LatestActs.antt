@@ -1,4 +1,4 @@
--- What a reading of a journal's acts tells with one act more on top. Assumes nothing.
+-- What a reading of a journal's acts tells with one act more on top.
 use Rattle.std.proofs.Common.{◌≡◌, ℕ, ◌+◌, Bool, true, false, cond, List, ◌∷◌, Some, None, count_by, Option, unwrap_or, refl, ap, arith}
 use Rattle.std.proofs.lemmas.List.Sums.{sum_by-cons}
 use Rattle.journal.specs.Acts.{Act, told}

@@ -1,4 +1,4 @@
--- The law of the journal holds of every ledger and every journal recorded of it. Assumes nothing.
+-- The law of the journal holds of every ledger and every journal recorded of it.
 use Rattle.std.proofs.Common.{◌≡◌, ℕ, ◌+◌, ◌-◌, ◌<◌, ◌≤◌, List, length, Ok, sum_by, sum, count_by, Option, sym, ap, ◌∙◌, subst, arith}
 use mathlib.Core.Path.{fun_ext}
 use Rattle.std.specs.List.{range_with_len}

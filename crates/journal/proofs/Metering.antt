@@ -1,4 +1,4 @@
--- Cutting off, reporting, claiming and advancing: the book has what the journal says with that act on top. Assumes nothing.
+-- Cutting off, reporting, claiming and advancing: the book has what the journal says with that act on top.
 use Rattle.std.proofs.Common.{◌≡◌, ℕ, ◌+◌, ◌-◌, ◌<◌, ◌≤◌, Bool, cond, eqb, ◌⊎◌, List, ◌∷◌, length, get_or, set, Some, None, Ok, Err, count_by, Option, unwrap_or, sym, refl, ap, ◌∙◌, subst, inl, inr, arith}
 use Rattle.std.proofs.Math.Seq.{map-set_same}
 use Rattle.std.proofs.lemmas.List.{get_or-set_same, get_or-set_other, length-map, map-set}
@@ -6,7 +6,9 @@ use Rattle.std.proofs.lemmas.Bool.{cases_eq, cond-true, cond-false, eq-eqb, ne_e
 use Rattle.calendar.specs.Calendar.{Calendar}
 use Rattle.metering.specs.declared.measuring.Measured.{Measured}
 use Rattle.metering.specs.Measuring.{measuring}
+use Rattle.metering.specs.Meaning.{ReportMeaning}
 use Rattle.sharing.specs.declared.rows.Row.{Row}
+use Rattle.sharing.specs.Rule.{RuleMeaning}
 use Rattle.ledger.specs.declared.course.Call.TheVariants as call
 use Rattle.ledger.specs.declared.kept.Ledger.{Ledger}
 use Rattle.ledger.specs.declared.state.Book.{Book}
@@ -19,10 +21,8 @@ use Rattle.ledger.specs.Form.{nothing_filed, held_in_all, month_of}
 use Rattle.ledger.specs.Course.{moved}
 use Rattle.ledger.specs.Changes.{with_month}
 use Rattle.ledger.specs.Claiming.{with_claim}
-use Rattle.ledger.specs.Reporting.{put_report}
+use Rattle.ledger.specs.Reporting.{measured_for, put_report}
 use Rattle.ledger.specs.Booking.{unreported_in}
-use Rattle.ledger.specs.Entries.{Rule, Reported}
-use Rattle.ledger.specs.Runs.{measured_by}
 use Rattle.ledger.specs.Cutting as cutting
 use Rattle.ledger.specs.Advancing as advancing
 use Rattle.journal.specs.Acts.{Act, cut, reported, advanced, is_cut, is_advance, told, before, before_nth}
@@ -32,7 +32,7 @@ use Rattle.journal.proofs.Alike.{trade_is}
 use Rattle.journal.proofs.Simulation.{Unreported, ResultsBy, CutOff, CourseBy, Simulates, reports}
 
 -- what the reports that stand come to, where one more does
-results_more : (h : List Act) (c : Calendar) (ms : List (Option Measured)) (m f : ℕ) (x : Reported) (v : Measured) → 0 < f → f ≤ 64 → length ms ≡ 64 → result c m (held_in_all (trade_by (before is_cut h)) (f - 1)) (Some x) ≡ v → ResultsBy h c ms m → ResultsBy (reported f x ∷ h) c (set ms (f - 1) (Some v)) m
+results_more : (h : List Act) (c : Calendar) (ms : List (Option Measured)) (m f : ℕ) (x : ReportMeaning) (v : Measured) → 0 < f → f ≤ 64 → length ms ≡ 64 → result c m (held_in_all (trade_by (before is_cut h)) (f - 1)) (Some x) ≡ v → ResultsBy h c ms m → ResultsBy (reported f x ∷ h) c (set ms (f - 1) (Some v)) m
 results_more h c ms m f x v from to long came old i inside =
     let kw = held_in_all (trade_by (before is_cut h)) in
     let tells : Bool → Measured = λ t. result c m (kw i) (told (cond t (Some x) None) (standing h (i + 1))) in
@@ -46,7 +46,7 @@ results_more h c ms m f x v from to long came old i inside =
     ]
 
 -- where a cut-off is known of one more report
-cut_off_more : (h : List Act) (c : Calendar) (ms : List (Option Measured)) (m f : ℕ) (x : Reported) (v : Measured) → 0 < f → f ≤ 64 → length ms ≡ 64 → result c m (held_in_all (trade_by (before is_cut h)) (f - 1)) (Some x) ≡ v → CutOff h c ms m → CutOff (reported f x ∷ h) c (set ms (f - 1) (Some v)) m
+cut_off_more : (h : List Act) (c : Calendar) (ms : List (Option Measured)) (m f : ℕ) (x : ReportMeaning) (v : Measured) → 0 < f → f ≤ 64 → length ms ≡ 64 → result c m (held_in_all (trade_by (before is_cut h)) (f - 1)) (Some x) ≡ v → CutOff h c ms m → CutOff (reported f x ∷ h) c (set ms (f - 1) (Some v)) m
 cut_off_more h c ms m f x v from to long came old = record {
   trade = old.trade;
   switches = old.switches;
@@ -100,16 +100,16 @@ module _ (l : Ledger) (h : List Act) (old : Simulates h l.book) where
       }
 
   -- what a report comes to under the kW held at the cut-off is what it came to when it was taken
-  came_to : (m f : ℕ) (x : Reported) (v : Measured) → month_of b.stage ≡ m → CutOff h b.calendar (reports b.month) m → measured_by b f x ≡ Ok v → result b.calendar m (held_in_all (trade_by (before is_cut h)) (f - 1)) (Some x) ≡ v
+  came_to : (m f : ℕ) (x : ReportMeaning) (v : Measured) → month_of b.stage ≡ m → CutOff h b.calendar (reports b.month) m → measured_for b f x ≡ Ok v → result b.calendar m (held_in_all (trade_by (before is_cut h)) (f - 1)) (Some x) ≡ v
   came_to m f x v is z taken =
       let t = b.trade in
       let same : held_in_all t (f - 1) ≡ held_in_all (trade_by (before is_cut h)) (f - 1) =
       ap (λ u. held_in_all u (f - 1)) (trade_is h t old.trades l.wide ∙ z.trade) in
-      let measures : ℕ → ℕ → _ = λ n k. measuring x.shortest x.longest (λ credit kw. credit kw) b.calendar n k x.credits x.test in
+      let measures : ℕ → ℕ → _ = λ n k. measuring x b.calendar n k in
       ap (λ r. elim r [ Ok w ↦ w | Err e ↦ unreported_in b.calendar m ]) (ap (measures m) (sym same) ∙ ap (λ n. measures n (held_in_all t (f - 1))) (sym is) ∙ taken)
 
   -- the course with one more report in a month that is cut off
-  reported_course : (f : ℕ) (x : Reported) (v : Measured) (m : ℕ) (q : Phase) → (q ≡ Metering) ⊎ (q ≡ Claims) → b.stage ≡ Month m q → 0 < f → f ≤ 64 → measured_by b f x ≡ Ok v → CourseBy (reported f x ∷ h) b.calendar (set (reports b.month) (f - 1) (Some v)) b.stage
+  reported_course : (f : ℕ) (x : ReportMeaning) (v : Measured) (m : ℕ) (q : Phase) → (q ≡ Metering) ⊎ (q ≡ Claims) → b.stage ≡ Month m q → 0 < f → f ≤ 64 → measured_for b f x ≡ Ok v → CourseBy (reported f x ∷ h) b.calendar (set (reports b.month) (f - 1) (Some v)) b.stage
   reported_course f x v m q after is from to taken =
       let more : CutOff h b.calendar (reports b.month) m → CutOff (reported f x ∷ h) b.calendar (set (reports b.month) (f - 1) (Some v)) m = λ z. cut_off_more h b.calendar (reports b.month) m f x v from to (length-map b.month (λ y. y.measured) ∙ l.shaped.0) (came_to m f x v (ap month_of is) z taken) z in
       let next : Stage → Type 0 = CourseBy (reported f x ∷ h) b.calendar (set (reports b.month) (f - 1) (Some v)) in
@@ -125,7 +125,7 @@ module _ (l : Ledger) (h : List Act) (old : Simulates h l.book) where
       ]
 
   -- a report is taken, or comes with an upheld claim
-  pub reported_simulates : (f : ℕ) (x : Reported) (v : Measured) (m : ℕ) (q : Phase) → (q ≡ Metering) ⊎ (q ≡ Claims) → b.stage ≡ Month m q → 0 < f → f ≤ length b.register.items → measured_by b f x ≡ Ok v → Simulates (reported f x ∷ h) (with_month b (put_report b.month f v))
+  pub reported_simulates : (f : ℕ) (x : ReportMeaning) (v : Measured) (m : ℕ) (q : Phase) → (q ≡ Metering) ⊎ (q ≡ Claims) → b.stage ≡ Month m q → 0 < f → f ≤ length b.register.items → measured_for b f x ≡ Ok v → Simulates (reported f x ∷ h) (with_month b (put_report b.month f v))
   reported_simulates f x v m q after is from to taken = record {
     calendar = old.calendar;
     numbers = old.numbers;
@@ -138,7 +138,7 @@ module _ (l : Ledger) (h : List Act) (old : Simulates h l.book) where
     year = old.year;
   }
 
-  pub advanced_simulates : (rule : Rule) (rows : List Row) (total : ℕ) (left : List Row) (m : ℕ) → b.stage ≡ Month m Metering → (CutOff h b.calendar (reports b.month) m → Charged b.calendar h m rule rows total left) → Simulates (advanced rule rows total left ∷ h) (advancing.advanced b)
+  pub advanced_simulates : (rule : RuleMeaning) (rows : List Row) (total : ℕ) (left : List Row) (m : ℕ) → b.stage ≡ Month m Metering → (CutOff h b.calendar (reports b.month) m → Charged b.calendar h m rule rows total left) → Simulates (advanced rule rows total left ∷ h) (advancing.advanced b)
   advanced_simulates rule rows total left m is charged =
       let act = advanced rule rows total left in
       let now = subst At is old.course in

@@ -1,18 +1,18 @@
--- A closing on top of a journal: its month, and the months before it. Assumes nothing.
+-- A closing on top of a journal: its month, and the months before it.
 use Rattle.std.proofs.Common.{◌≡◌, ℕ, ◌+◌, eqb, List, ◌∷◌, sum_by, count_by, sym, refl, ap, ◌∙◌, arith}
 use Rattle.std.specs.List.{range_with_len}
 use Rattle.std.proofs.lemmas.Bool.{cond-true, cond-false, eq-eqb, ne_eqb}
 use Rattle.calendar.specs.Calendar.{Calendar}
 use Rattle.sharing.specs.declared.rows.Row.{Row}
 use Rattle.sharing.specs.Steps.{sum_by-counting_more, sum_by-counting_same}
+use Rattle.sharing.specs.Rule.{RuleMeaning}
 use Rattle.ledger.specs.declared.state.Line.{Line}
-use Rattle.ledger.specs.Entries.{Rule}
 use Rattle.ledger.proofs.CountingSums.{sum_by-counting_shift}
 use Rattle.journal.specs.Acts.{Act, closed, is_closing, before_nth}
 use Rattle.journal.specs.Law.{facilities, line_then, all_lines, all_months}
 use Rattle.journal.proofs.LatestActs.{one_more}
 
-module _ (h : List Act) (rule : Rule) (rows : List Row) (total : ℕ) (left : List Row) where
+module _ (h : List Act) (rule : RuleMeaning) (rows : List Row) (total : ℕ) (left : List Row) where
   abbrev act : Act
   act = closed rule rows total left
 

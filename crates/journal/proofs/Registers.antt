@@ -1,4 +1,4 @@
--- The register of a book is that of its journal: each facility's firm power, and whether it is on. Assumes nothing.
+-- The register of a book is that of its journal: each facility's firm power, and whether it is on.
 use Rattle.std.proofs.Common.{◌≡◌, ℕ, ◌+◌, ◌-◌, ◌<◌, ◌≤◌, Bool, false, cond, eqb, length, sym, refl, ap, ◌∙◌, arith}
 use Rattle.std.proofs.lemmas.List.{length-set, length_push}
 use Rattle.std.proofs.lemmas.Bool.{cond-true, cond-false, eq-eqb, ne_eqb}

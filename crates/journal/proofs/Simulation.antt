@@ -1,4 +1,4 @@
--- What a book has is what the acts of its journal say of it, part by part. Assumes nothing.
+-- What a book has is what the acts of its journal say of it, part by part.
 use Rattle.std.proofs.Common.{◌≡◌, ℕ, ◌+◌, ◌-◌, ◌<◌, ◌≤◌, List, [], map, get_or, None, sum_by, count_by, Option, unwrap_or}
 use Rattle.std.specs.List.{range_with_len}
 use Rattle.calendar.specs.Calendar.{Calendar}

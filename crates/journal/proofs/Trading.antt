@@ -1,5 +1,5 @@
 -- The awards of a book are those of its journal: what a trade holds, by the kW brought and lost under each award. The
--- readings stand for themselves, so that an act that touches none of them leaves all of this as it is. Assumes nothing.
+-- readings stand for themselves, so that an act that touches none of them leaves all of this as it is.
 use Rattle.std.proofs.Common.{◌≡◌, ℕ, ◌+◌, ◌-◌, ◌<◌, ◌≤◌, cond, ◌&&◌, eqb, List, length, get_or, set, replicate, sym, refl, ap, ◌∙◌, ⊎_elim, arith}
 use Rattle.std.proofs.lemmas.List.{get_or-set_same, get_or-set_other, length-set, length_push}
 use Rattle.std.proofs.lemmas.Bool.{cases_eq, cond-true, cond-false, eq-eqb, ne_eqb, and_left, and_right, and_from}

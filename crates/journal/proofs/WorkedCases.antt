@@ -3,15 +3,17 @@ use Rattle.std.proofs.Common.{◌≡◌, ℕ, ◌≤◌, true, List, [], ◌∷�
 use Rattle.calendar.specs.Calendar.{Calendar}
 use Rattle.calendar.specs.Months.{first_months}
 use Rattle.calendar.specs.Stress.{stress_hours}
+use Rattle.metering.specs.Meaning.{ReportMeaning}
 use Rattle.sharing.specs.declared.rows.Row.{Row}
 use Rattle.sharing.specs.Rows.{mwhs, charged as put_in}
-use Rattle.sharing.specs.Rule.{Lawful}
+use Rattle.sharing.specs.Running.{running_meaning}
+use Rattle.sharing.specs.Remainder.{remainder_meaning}
+use Rattle.sharing.specs.Rule.{RuleMeaning, Lawful}
 use Rattle.sharing.specs.RemainderLaws.{remainder_lawful}
 use Rattle.ledger.specs.Lines.{booked_line}
-use Rattle.ledger.specs.Entries.{Rule, Reported}
 use Rattle.journal.specs.Acts.{switched, awarded, ceded, cut, reported, advanced, closed, acts}
 use Rattle.journal.specs.Law.{facilities, line, Opened}
-use Rattle.journal.specs.Worked.{buyers, running, remainder, february, advanced_february, journal, Says}
+use Rattle.journal.specs.Worked.{buyers, february, advanced_february, journal, Says}
 use Rattle.journal.specs.Cases.{start, won, idle_advance, idle_month, fixed, ChargeCases, NoBook, LawCases}
 use Rattle.journal.proofs.Charging.{charged_lawfully}
 use Rattle.journal.proofs.WorkedStages.{unopened_at, trading_at, metering_at, claims_at, nowhere}
@@ -61,20 +63,20 @@ unfolding facilities
 lent b holds = let all : 150 ≡ 100 = holds.year in omega (arith, all)
 
 -- rows that have a rule's charges for a total have those for the number that it is
-settled : (rule : Rule) (rows : List Row) (sum is : ℕ) (left : List Row) → sum ≡ is → left ≡ put_in rows (rule.charges sum (mwhs rows)) → (sum ≡ is) × (left ≡ put_in rows (rule.charges is (mwhs rows)))
+settled : (rule : RuleMeaning) (rows : List Row) (sum is : ℕ) (left : List Row) → sum ≡ is → left ≡ put_in rows (rule.charges sum (mwhs rows)) → (sum ≡ is) × (left ≡ put_in rows (rule.charges is (mwhs rows)))
 settled rule rows sum is left same put = (same, put ∙ ap (λ t. put_in rows (rule.charges t (mwhs rows))) same)
 
-advance : (total : ℕ) (left : List Row) → Says (advanced running (buyers 33 33 34) total left ∷ acts february) (λ b. (total ≡ 74) × (left ≡ buyers 24 25 25))
+advance : (total : ℕ) (left : List Row) → Says (advanced running_meaning (buyers 33 33 34) total left ∷ acts february) (λ b. (total ≡ 74) × (left ≡ buyers 24 25 25))
 advance sum left b holds =
     let now = holds.charges.0 in
-    settled running (buyers 33 33 34) sum 74 left (now.rights_less_penalties ∙ total b.calendar holds.calendar) now.by_its_rule
+    settled running_meaning (buyers 33 33 34) sum 74 left (now.rights_less_penalties ∙ total b.calendar holds.calendar) now.by_its_rule
 
-closing : (total : ℕ) (left : List Row) → Says (closed remainder (buyers 33 33 34) total left ∷ acts advanced_february) (λ b. (total ≡ 74) × (left ≡ buyers 25 25 24))
+closing : (total : ℕ) (left : List Row) → Says (closed remainder_meaning (buyers 33 33 34) total left ∷ acts advanced_february) (λ b. (total ≡ 74) × (left ≡ buyers 25 25 24))
 closing sum left b holds =
     let now = holds.charges.0 in
-    settled remainder (buyers 33 33 34) sum 74 left (now.rights_less_penalties ∙ total b.calendar holds.calendar) now.by_its_rule
+    settled remainder_meaning (buyers 33 33 34) sum 74 left (now.rights_less_penalties ∙ total b.calendar holds.calendar) now.by_its_rule
 
-loss : (x : Reported) (rule : Rule) (rows left : List Row) (total : ℕ) → Says (closed rule rows total left ∷ advanced rule rows total left ∷ reported 2 x ∷ acts february) (λ b. (booked_line b 2 2).penalty ≤ 50)
+loss : (x : ReportMeaning) (rule : RuleMeaning) (rows left : List Row) (total : ℕ) → Says (closed rule rows total left ∷ advanced rule rows total left ∷ reported 2 x ∷ acts february) (λ b. (booked_line b 2 2).penalty ≤ 50)
 unfolding facilities
 loss x rule rows left total b holds =
     let h = closed rule rows total left ∷ advanced rule rows total left ∷ reported 2 x ∷ acts february in

@@ -1,4 +1,4 @@
--- The worked run, recorded step by step by computing what each call answers and leaves. Assumes nothing.
+-- The worked run, recorded step by step by computing what each call answers and leaves.
 use Rattle.std.proofs.Common.{ℕ, ◌-◌, true, [], ◌∷◌, refl, ◌∙◌, lit≤}
 use Rattle.std.proofs.lemmas.List.{length-set}
 use Rattle.calendar.specs.Filling.{given_year}
@@ -63,13 +63,13 @@ month_one_recorded =
     (noted _ _ on won
     (noted _ _ on on
     (noted _ _ two on
-    (noted _ _ one two (noted _ _ opened one (noted _ _ fresh opened (made fresh refl) (refl, refl)) (refl, refl)) (refl, refl))
-    (refl, refl))
-    (refl, refl))
-    (refl, refl))
-    (refl, refl))
-    (running_lawful, refl, refl, refl))
-    (running_lawful, refl, refl, refl)
+    (noted _ _ one two (noted _ _ opened one (noted _ _ fresh opened (made fresh refl) record { answer = refl; after = refl }) record { answer = refl; after = refl }) record { answer = refl; after = refl })
+    record { answer = refl; after = refl })
+    record { answer = refl; after = refl })
+    record { answer = refl; after = refl })
+    record { answer = refl; after = refl })
+    (running_lawful, record { answer = refl; after = refl; rows = refl }))
+    (running_lawful, record { answer = refl; after = refl; rows = refl })
 
 -- month 2: the cession, and the reports
 abbrev both_on : Ledger
@@ -112,11 +112,11 @@ recorded =
     (noted _ _ cut_two first_report
     (noted _ _ ceded cut_two
     (noted _ _ both_on ceded
-    (noted _ _ closed_one both_on month_one_recorded (refl, refl))
-    (refl, refl))
-    (refl, refl))
-    (refl, refl))
-    (refl, refl))
-    (refl, refl))
-    (running_lawful, refl, refl, refl))
-    (remainder_lawful, refl, refl, refl)
+    (noted _ _ closed_one both_on month_one_recorded record { answer = refl; after = refl })
+    record { answer = refl; after = refl })
+    record { answer = refl; after = refl })
+    record { answer = refl; after = refl })
+    record { answer = refl; after = refl })
+    record { answer = refl; after = refl })
+    (running_lawful, record { answer = refl; after = refl; rows = refl }))
+    (remainder_lawful, record { answer = refl; after = refl; rows = refl })

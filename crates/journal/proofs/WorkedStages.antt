@@ -1,4 +1,4 @@
--- The stage, by what the acts have come to. Assumes nothing.
+-- The stage, by what the acts have come to.
 use Rattle.std.proofs.Common.{◌≡◌, ℕ, ◌+◌, ◌<◌, List, [], ◌∷◌, length, count_by, refl, ap, arith}
 use Rattle.ledger.specs.declared.state.Stage.{Stage}
 use Rattle.ledger.specs.declared.state.Stage.TheVariants.{Unopened, Month, Finished}

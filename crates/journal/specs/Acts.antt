@@ -1,11 +1,12 @@
 -- What a journal's accepted entries did, and how that is read: by sums over them, and by the latest that says something.
 -- A refused entry did nothing, and a claim and a dismissed claim did nothing to stage, holdings, lines or charges.
--- Assumes nothing.
-use Rattle.std.specs.Prelude.{ℕ, ◌+◌, Bool, true, false, cond, ◌&&◌, List, [], ◌∷◌, Some, None, Ok, Err, sum, count_by, Option, ◌==◌}
+use Rattle.std.specs.Prelude.{ℕ, ◌+◌, Bool, true, false, cond, ◌&&◌, List, [], ◌∷◌, Some, None, Ok, sum, count_by, Option, ◌==◌}
+use Rattle.metering.specs.Meaning.{ReportMeaning}
 use Rattle.sharing.specs.declared.rows.Row.{Row}
 use Rattle.sharing.specs.Rows.{charges_in}
+use Rattle.sharing.specs.Rule.{RuleMeaning}
 use Rattle.ledger.specs.Registering.{firm_power}
-use Rattle.ledger.specs.Entries.{Rule, Reported, Journal, opening, registering, switching, awarding, ceding, cutting, reporting, advancing, claiming, dismissing, upholding, closing}
+use Rattle.ledger.specs.Entries.{Journal, opening, registering, switching, awarding, ceding, cutting, reporting, advancing, upholding, closing}
 
 -- what an accepted entry did; a report and an upheld claim both bring a report
 pub data Act : Type 0 where
@@ -15,179 +16,85 @@ pub data Act : Type 0 where
   awarded : (award facility kw price : ℕ) → Act
   ceded : (award giver taker kw : ℕ) → Act
   cut : Act
-  reported : (facility : ℕ) (report : Reported) → Act
-  advanced : (rule : Rule) (rows : List Row) (total : ℕ) (left : List Row) → Act
-  closed : (rule : Rule) (rows : List Row) (total : ℕ) (left : List Row) → Act
+  reported : (facility : ℕ) (report : ReportMeaning) → Act
+  advanced : (rule : RuleMeaning) (rows : List Row) (total : ℕ) (left : List Row) → Act
+  closed : (rule : RuleMeaning) (rows : List Row) (total : ℕ) (left : List Row) → Act
 
 -- the acts of a journal, the newest first
 abbrev pub acts : Journal → List Act
 acts [] = []
 acts (opening year firsts lengths (Ok u) ∷ j) = opened year firsts lengths ∷ acts j
-acts (opening year firsts lengths (Err e) ∷ j) = acts j
 acts (registering letter modules count access (Ok f) ∷ j) = registered f letter (firm_power modules count access) ∷ acts j
-acts (registering letter modules count access (Err e) ∷ j) = acts j
 acts (switching f on (Ok u) ∷ j) = switched f on ∷ acts j
-acts (switching f on (Err e) ∷ j) = acts j
 acts (awarding f kw price (Ok a) ∷ j) = awarded a f kw price ∷ acts j
-acts (awarding f kw price (Err e) ∷ j) = acts j
 acts (ceding a giver taker kw (Ok u) ∷ j) = ceded a giver taker kw ∷ acts j
-acts (ceding a giver taker kw (Err e) ∷ j) = acts j
 acts (cutting (Ok u) ∷ j) = cut ∷ acts j
-acts (cutting (Err e) ∷ j) = acts j
 acts (reporting f report (Ok u) ∷ j) = reported f report ∷ acts j
-acts (reporting f report (Err e) ∷ j) = acts j
 acts (upholding f report (Ok u) ∷ j) = reported f report ∷ acts j
-acts (upholding f report (Err e) ∷ j) = acts j
 acts (advancing rule rows (Ok total) left ∷ j) = advanced rule rows total left ∷ acts j
-acts (advancing rule rows (Err e) left ∷ j) = acts j
 acts (closing rule rows (Ok total) left ∷ j) = closed rule rows total left ∷ acts j
-acts (closing rule rows (Err e) left ∷ j) = acts j
-acts (claiming f r ∷ j) = acts j
-acts (dismissing f r ∷ j) = acts j
+acts (_ ∷ j) = acts j
 
 -- the kW that an act brings to the facility f under the award a
 abbrev pub brought : ℕ → ℕ → Act → ℕ
-brought a f (opened year firsts lengths) = 0
-brought a f (registered n letter firm) = 0
-brought a f (switched n v) = 0
 brought a f (awarded n g kw price) = cond (a == n && f == g) kw 0
 brought a f (ceded n giver taker kw) = cond (a == n && f == taker) kw 0
-brought a f cut = 0
-brought a f (reported n report) = 0
-brought a f (advanced rule rows total left) = 0
-brought a f (closed rule rows total left) = 0
+brought a f _ = 0
 
 -- the kW that it takes from the facility f under the award a
 abbrev pub lost : ℕ → ℕ → Act → ℕ
-lost a f (opened year firsts lengths) = 0
-lost a f (registered n letter firm) = 0
-lost a f (switched n v) = 0
-lost a f (awarded n g kw price) = 0
 lost a f (ceded n giver taker kw) = cond (a == n && f == giver) kw 0
-lost a f cut = 0
-lost a f (reported n report) = 0
-lost a f (advanced rule rows total left) = 0
-lost a f (closed rule rows total left) = 0
+lost a f _ = 0
 
 -- the kW and the price of the award a, where the act made it
 abbrev pub terms_of : ℕ → Act → Option (ℕ × ℕ)
-terms_of a (opened year firsts lengths) = None
-terms_of a (registered n letter firm) = None
-terms_of a (switched n v) = None
 terms_of a (awarded n g kw price) = cond (a == n) (Some (kw, price)) None
-terms_of a (ceded n giver taker kw) = None
-terms_of a cut = None
-terms_of a (reported n report) = None
-terms_of a (advanced rule rows total left) = None
-terms_of a (closed rule rows total left) = None
+terms_of a _ = None
 
 -- whether the act made an award
 abbrev pub is_award : Act → Bool
-is_award (opened year firsts lengths) = false
-is_award (registered n letter firm) = false
-is_award (switched n v) = false
 is_award (awarded n g kw price) = true
-is_award (ceded n giver taker kw) = false
-is_award cut = false
-is_award (reported n report) = false
-is_award (advanced rule rows total left) = false
-is_award (closed rule rows total left) = false
+is_award _ = false
 
 -- whether the act registered a facility
 abbrev pub is_registering : Act → Bool
-is_registering (opened year firsts lengths) = false
 is_registering (registered n letter firm) = true
-is_registering (switched n v) = false
-is_registering (awarded n g kw price) = false
-is_registering (ceded n giver taker kw) = false
-is_registering cut = false
-is_registering (reported n report) = false
-is_registering (advanced rule rows total left) = false
-is_registering (closed rule rows total left) = false
+is_registering _ = false
 
 -- the firm power of the facility f, where the act registered it
 abbrev pub firm_of : ℕ → Act → Option ℕ
-firm_of f (opened year firsts lengths) = None
 firm_of f (registered n letter firm) = cond (f == n) (Some firm) None
-firm_of f (switched n v) = None
-firm_of f (awarded n g kw price) = None
-firm_of f (ceded n giver taker kw) = None
-firm_of f cut = None
-firm_of f (reported n report) = None
-firm_of f (advanced rule rows total left) = None
-firm_of f (closed rule rows total left) = None
+firm_of f _ = None
 
 -- on or off, where the act switched the facility f
 abbrev pub switch_of : ℕ → Act → Option Bool
-switch_of f (opened year firsts lengths) = None
-switch_of f (registered n letter firm) = None
 switch_of f (switched n v) = cond (f == n) (Some v) None
-switch_of f (awarded n g kw price) = None
-switch_of f (ceded n giver taker kw) = None
-switch_of f cut = None
-switch_of f (reported n report) = None
-switch_of f (advanced rule rows total left) = None
-switch_of f (closed rule rows total left) = None
+switch_of f _ = None
 
 -- the report of the facility f, where the act brought one
-abbrev pub report_of : ℕ → Act → Option Reported
-report_of f (opened year firsts lengths) = None
-report_of f (registered n letter firm) = None
-report_of f (switched n v) = None
-report_of f (awarded n g kw price) = None
-report_of f (ceded n giver taker kw) = None
-report_of f cut = None
+abbrev pub report_of : ℕ → Act → Option ReportMeaning
 report_of f (reported n report) = cond (f == n) (Some report) None
-report_of f (advanced rule rows total left) = None
-report_of f (closed rule rows total left) = None
+report_of f _ = None
 
 -- whether the act was a cut-off
 abbrev pub is_cut : Act → Bool
-is_cut (opened year firsts lengths) = false
-is_cut (registered n letter firm) = false
-is_cut (switched n v) = false
-is_cut (awarded n g kw price) = false
-is_cut (ceded n giver taker kw) = false
 is_cut cut = true
-is_cut (reported n report) = false
-is_cut (advanced rule rows total left) = false
-is_cut (closed rule rows total left) = false
+is_cut _ = false
 
 -- whether the act was an advance
 abbrev pub is_advance : Act → Bool
-is_advance (opened year firsts lengths) = false
-is_advance (registered n letter firm) = false
-is_advance (switched n v) = false
-is_advance (awarded n g kw price) = false
-is_advance (ceded n giver taker kw) = false
-is_advance cut = false
-is_advance (reported n report) = false
 is_advance (advanced rule rows total left) = true
-is_advance (closed rule rows total left) = false
+is_advance _ = false
 
 -- whether the act was a closing
 abbrev pub is_closing : Act → Bool
-is_closing (opened year firsts lengths) = false
-is_closing (registered n letter firm) = false
-is_closing (switched n v) = false
-is_closing (awarded n g kw price) = false
-is_closing (ceded n giver taker kw) = false
-is_closing cut = false
-is_closing (reported n report) = false
-is_closing (advanced rule rows total left) = false
 is_closing (closed rule rows total left) = true
+is_closing _ = false
 
 -- what the buyers' rows were charged in all, where the act was a closing
 abbrev pub charged_by : Act → ℕ
-charged_by (opened year firsts lengths) = 0
-charged_by (registered n letter firm) = 0
-charged_by (switched n v) = 0
-charged_by (awarded n g kw price) = 0
-charged_by (ceded n giver taker kw) = 0
-charged_by cut = 0
-charged_by (reported n report) = 0
-charged_by (advanced rule rows total left) = 0
 charged_by (closed rule rows total left) = sum (charges_in left)
+charged_by _ = 0
 
 -- an answer, or else another
 abbrev pub told : {A : Type 0} → Option A → Option A → Option A

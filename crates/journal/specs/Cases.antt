@@ -3,15 +3,18 @@
 use Rattle.std.specs.Prelude.{◌≡◌, ℕ, ◌≤◌, true, List, [], ◌∷◌, length, replicate}
 use Rattle.calendar.specs.Calendar.{Calendar}
 use Rattle.calendar.specs.Stress.{stress_hours}
+use Rattle.metering.specs.Meaning.{ReportMeaning}
 use Rattle.sharing.specs.declared.rows.Row.{Row}
 use Rattle.sharing.specs.Rows.{charged as put_in}
+use Rattle.sharing.specs.Rule.{RuleMeaning}
+use Rattle.sharing.specs.Running.{running_meaning}
+use Rattle.sharing.specs.Remainder.{remainder_meaning}
 use Rattle.ledger.specs.declared.state.Stage.TheVariants.{Unopened, Month}
 use Rattle.ledger.specs.declared.state.Phase.TheVariants.{Trading, Metering, Claims}
 use Rattle.ledger.specs.Lines.{booked_line}
-use Rattle.ledger.specs.Entries.{Rule, Reported}
 use Rattle.journal.specs.Acts.{Act, opened, registered, switched, awarded, ceded, cut, reported, advanced, closed, acts}
 use Rattle.journal.specs.Law.{Charged}
-use Rattle.journal.specs.Worked.{buyer, buyers, running, remainder, february, advanced_february, Says}
+use Rattle.journal.specs.Worked.{buyer, buyers, february, advanced_february, Says}
 
 -- two facilities are registered, and both are off
 abbrev pub start : List Act
@@ -23,17 +26,17 @@ won = awarded 1 1 1_000 12 ∷ start
 
 -- a month's advance, where nothing is to be charged, and its whole end from the cut-off on
 abbrev pub idle_advance : Act
-idle_advance = advanced running (buyers 0 0 0) 0 (buyers 0 0 0)
+idle_advance = advanced running_meaning (buyers 0 0 0) 0 (buyers 0 0 0)
 
 abbrev pub idle_month : List Act → List Act
-idle_month h = closed running (buyers 0 0 0) 0 (buyers 0 0 0) ∷ idle_advance ∷ cut ∷ h
+idle_month h = closed running_meaning (buyers 0 0 0) 0 (buyers 0 0 0) ∷ idle_advance ∷ cut ∷ h
 
 -- the law allows these acts of no book
 abbrev pub NoBook : List Act → Type 0
 NoBook h = Says h (λ b. ⊥)
 
 -- a rule that has these weights and these charges, whatever it shares
-abbrev pub fixed : List ℕ → List ℕ → Rule
+abbrev pub fixed : List ℕ → List ℕ → RuleMeaning
 fixed ws cs = record { weights = λ total ms. ws; charges = λ total ms. cs }
 
 -- February's 74 cents are charged to these rows, by these weights and charges
@@ -79,13 +82,13 @@ pub record LawCases : Type 0 where
   pub lent : NoBook (ceded 1 1 2 500 ∷ idle_month (ceded 1 2 1 500 ∷ won))
   -- what an advance and a closing of February answer, and the rows that they leave
   pub advance : (total : ℕ) (left : List Row)
-      → Says (advanced running (buyers 33 33 34) total left ∷ acts february)
+      → Says (advanced running_meaning (buyers 33 33 34) total left ∷ acts february)
       (λ b. (total ≡ 74) × (left ≡ buyers 24 25 25))
   pub closing : (total : ℕ) (left : List Row)
-      → Says (closed remainder (buyers 33 33 34) total left ∷ acts advanced_february)
+      → Says (closed remainder_meaning (buyers 33 33 34) total left ∷ acts advanced_february)
       (λ b. (total ≡ 74) × (left ≡ buyers 25 25 24))
   pub charges : Says (acts february) (λ b. ChargeCases b.calendar)
   -- facility 2 loses at most its 50 cents of February, whatever it reports last
-  pub loss : (x : Reported) (rule : Rule) (rows left : List Row) (total : ℕ)
+  pub loss : (x : ReportMeaning) (rule : RuleMeaning) (rows left : List Row) (total : ℕ)
       → Says (closed rule rows total left ∷ advanced rule rows total left ∷ reported 2 x ∷ acts february)
       (λ b. (booked_line b 2 2).penalty ≤ 50)

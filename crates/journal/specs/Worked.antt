@@ -1,11 +1,12 @@
 -- A run worked out: two facilities, one award of 1,000 kW at 12 euros, and two months, of which the second has one stress
--- hour. In month 2 facility 1 cedes half of its kW to facility 2, which reports twice. Serves src/worked.rt. Assumes nothing.
-use Rattle.std.specs.Prelude.{◌≡◌, ℕ, true, false, List, [], ◌∷◌, length, None, Ok, Err, sum_by, sum}
+-- hour. In month 2 facility 1 cedes half of its kW to facility 2, which reports twice. Serves src/worked.rt.
+use Rattle.std.specs.Prelude.{◌≡◌, ℕ, true, false, List, [], ◌∷◌, length, None, Ok, Err, sum_by}
 use Rattle.calendar.specs.Stress.{stress_hours}
 use Rattle.metering.specs.Credit.{thermal_credit}
+use Rattle.metering.specs.Meaning.{ReportMeaning}
 use Rattle.sharing.specs.declared.rows.Row.{Row}
-use Rattle.sharing.specs.Split.{split}
-use Rattle.sharing.specs.Remainder.{by_remainder}
+use Rattle.sharing.specs.Running.{running_meaning}
+use Rattle.sharing.specs.Remainder.{remainder_meaning}
 use Rattle.ledger.specs.declared.kept.Ledger.{Ledger}
 use Rattle.ledger.specs.declared.registering.Module.{Module}
 use Rattle.ledger.specs.declared.refusal.Refusal.TheVariants as refusal
@@ -18,7 +19,7 @@ use Rattle.ledger.specs.Form.{facility_at}
 use Rattle.ledger.specs.Judged.{ruled}
 use Rattle.ledger.specs.Lines.{closed_months, line_rows, booked_line}
 use Rattle.ledger.specs.Readings.{holding_at}
-use Rattle.ledger.specs.Entries.{Rule, Reported, meant, Journal, opening, registering, switching, awarding, ceding, cutting, reporting, advancing, closing}
+use Rattle.ledger.specs.Entries.{Journal, opening, registering, switching, awarding, ceding, cutting, reporting, advancing, closing}
 use Rattle.ledger.specs.Runs.{Recorded}
 use Rattle.journal.specs.Acts.{Act, acts, charged_by}
 use Rattle.journal.specs.Law.{held, firm, line, earned_by, all_months, Holds}
@@ -37,22 +38,21 @@ buyer number charge = record { id = number; mwh = 1; charge = charge }
 abbrev pub buyers : ℕ → ℕ → ℕ → List Row
 buyers x y z = buyer 1 x ∷ buyer 2 y ∷ buyer 3 z ∷ []
 
--- the two built-in rules
-abbrev pub running : Rule
-running = record { weights = λ total ms. ms; charges = λ total ms. split total (sum ms) ms }
-
-abbrev pub remainder : Rule
-remainder = record { weights = λ total ms. ms; charges = λ total ms. by_remainder total (sum ms) ms }
-
 -- a thermal facility's report of one hour, at these kW
-abbrev pub at_kw : ℕ → Reported
-at_kw kw = meant 84 3 24 thermal_credit (record { declared = kw; least = 100 } ∷ []) None
+abbrev pub at_kw : ℕ → ReportMeaning
+at_kw kw = record {
+  letter = 84;
+  shortest = 3;
+  longest = 24;
+  credits = thermal_credit (record { declared = kw; least = 100 }) ∷ [];
+  test = None;
+}
 
 -- month 1; one award is refused, since it is too small
 abbrev pub month_one : Journal
 month_one =
-    closing running (buyers 0 0 0) (Ok 100) (buyers 33 33 34)
-    ∷ advancing running (buyers 0 0 0) (Ok 100) (buyers 33 33 34)
+    closing running_meaning (buyers 0 0 0) (Ok 100) (buyers 33 33 34)
+    ∷ advancing running_meaning (buyers 0 0 0) (Ok 100) (buyers 33 33 34)
     ∷ cutting (Ok tt)
     ∷ awarding 1 1_000 12 (Ok 1)
     ∷ awarding 1 600 12 (Err (fault.Own refusal.OutOfLimits))
@@ -71,11 +71,11 @@ february =
 
 -- and before its closing
 abbrev pub advanced_february : Journal
-advanced_february = advancing running (buyers 33 33 34) (Ok 74) (buyers 24 25 25) ∷ february
+advanced_february = advancing running_meaning (buyers 33 33 34) (Ok 74) (buyers 24 25 25) ∷ february
 
 -- both months
 abbrev pub journal : Journal
-journal = closing remainder (buyers 33 33 34) (Ok 74) (buyers 25 25 24) ∷ advanced_february
+journal = closing remainder_meaning (buyers 33 33 34) (Ok 74) (buyers 25 25 24) ∷ advanced_february
 
 abbrev pub line_with : ℕ → ℕ → Line
 line_with right penalty = record { right = right; penalty = penalty }

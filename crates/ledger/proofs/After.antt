@@ -1,4 +1,4 @@
--- The ledger that an accepted call leaves: its book keeps what every book keeps. Assumes nothing.
+-- The ledger that an accepted call leaves: its book keeps what every book keeps.
 use Rattle.std.proofs.Common.{◌≡◌, ℕ, ◌-◌, ◌<◌, ◌≤◌, Bool, false, List, length, refl, ◌∙◌, arith, lit≤}
 use Rattle.std.proofs.lemmas.List.{length-set, length_push}
 use Rattle.calendar.specs.Calendar.{Calendar}

@@ -1,4 +1,4 @@
--- Reading a table of refusals. Assumes nothing.
+-- Reading a table of refusals.
 use Rattle.std.proofs.Common.{◌≡◌, true, false, [], ◌∷◌, ◌++◌, IsErrAnd, Ok, Err, Result, sym, refl, ap, ◌∙◌}
 use Rattle.std.proofs.lemmas.Result.{err_from_is_err_and}
 use Rattle.ledger.specs.declared.refusal.Refusal.{Refusal}

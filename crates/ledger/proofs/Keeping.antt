@@ -1,4 +1,4 @@
--- All that a ledger keeps of its book, in the order in which `Ledger` has it. Assumes nothing.
+-- All that a ledger keeps of its book, in the order in which `Ledger` has it.
 use Rattle.ledger.specs.declared.state.Book.{Book}
 use Rattle.ledger.specs.Form.{month_of, Sized, Shaped, Wide, Lined, Booked, Firm, Within, Whole, Priced, Dated}
 

@@ -13,6 +13,5 @@ pub mod RightLaws
 pub mod MonthBounds
 pub mod PenaltyLaws
 pub mod BookingLaws
-pub mod Meaning
 pub mod Reports
 pub mod After

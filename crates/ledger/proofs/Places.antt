@@ -1,4 +1,4 @@
--- What holds of each place of a list, where one place is changed, or one item pushed. Assumes nothing.
+-- What holds of each place of a list, where one place is changed, or one item pushed.
 use Rattle.std.proofs.Common.{◌≡◌, ℕ, zero, suc, ◌<◌, ◌≢◌, List, [], ◌∷◌, ◌++◌, length, get_or, set, replicate, sym, refl, ap, ◌∙◌, subst, ⊎_elim, arith}
 use Rattle.std.specs.List.{refill}
 use Rattle.arrayvec.specs.ArrayVec.{ArrayVec, with_item, with_items}

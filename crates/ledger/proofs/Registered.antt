@@ -1,4 +1,4 @@
--- What a book keeps when a facility is registered. Assumes nothing.
+-- What a book keeps when a facility is registered.
 use Rattle.std.proofs.Common.{ℕ, ◌≤◌, length, ap, arith}
 use Rattle.std.proofs.lemmas.List.{get_or_past}
 use Rattle.ledger.specs.declared.state.Book.{Book}

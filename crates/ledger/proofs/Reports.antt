@@ -1,4 +1,4 @@
--- What the book of a report that was measured is afterwards. Assumes nothing.
+-- What the book of a report that was measured is afterwards.
 use Rattle.std.proofs.Common.{◌≡◌, ℕ, Ok, Result, ap, ◌∙◌}
 use Rattle.metering.specs.declared.measuring.Measured.{Measured}
 use Rattle.metering.specs.declared.fault.MeteringFault.{MeteringFault}

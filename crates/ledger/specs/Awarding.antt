@@ -1,10 +1,10 @@
--- Awarding: its figures, its refusals, and the award that it adds. Serves src/awarding.rt. Assumes nothing.
-use Rattle.std.specs.Prelude.{ℕ, ◌+◌, ◌-◌, Bool, not, ◌&&◌, [], ◌∷◌, ◌++◌, length, replicate, nat_le, nat_lt, slice_set}
+-- Awarding: its figures, its refusals, and the award that it adds. Serves src/awarding.rt.
+use Rattle.std.specs.Prelude.{ℕ, ◌+◌, ◌-◌, Bool, not, ◌&&◌, [], ◌∷◌, ◌++◌, length, Ok, replicate, nat_le, nat_lt, slice_set}
 use Rattle.ledger.specs.declared.course.Call.TheVariants as call
 use Rattle.ledger.specs.declared.refusal.Refusal.TheVariants as refusal
 use Rattle.ledger.specs.declared.state.Award.{Award}
 use Rattle.ledger.specs.declared.state.Book.{Book}
-use Rattle.ledger.specs.Judged.{Rows, given_out}
+use Rattle.ledger.specs.Judged.{Rows, given_out, Answer, Does}
 use Rattle.ledger.specs.Course.{course}
 use Rattle.ledger.specs.Form.{facility_at, held_in_all}
 use Rattle.ledger.specs.Changes.{with_trade}
@@ -31,3 +31,7 @@ new_award f kw price = record { kw = kw; price = price; held = slice_set (replic
 
 abbrev pub awarded : Book → ℕ → ℕ → ℕ → Book
 awarded b f kw price = with_trade b (record { items = b.trade.items ++ new_award f kw price ∷ [] })
+
+-- an awarding on the book b answers r, the award's number where it is accepted, and leaves the book b'
+abbrev pub Awards : Book → ℕ → ℕ → ℕ → Answer ℕ → Book → Type 0
+Awards b f kw price r b' = Does (award_rows b f kw price) (Ok (length b.trade.items + 1)) (awarded b f kw price) b r b'

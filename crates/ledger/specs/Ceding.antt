@@ -1,10 +1,10 @@
--- Ceding: its refusals, and the kW that it moves. Serves src/ceding.rt. Assumes nothing.
-use Rattle.std.specs.Prelude.{ℕ, ◌+◌, ◌-◌, not, ◌&&◌, List, [], ◌∷◌, ◌++◌, length, ◌==◌, nat_lt, slice_index, slice_set}
+-- Ceding: its refusals, and the kW that it moves. Serves src/ceding.rt.
+use Rattle.std.specs.Prelude.{ℕ, ◌+◌, ◌-◌, not, ◌&&◌, List, [], ◌∷◌, ◌++◌, length, Ok, ◌==◌, nat_lt, slice_index, slice_set}
 use Rattle.ledger.specs.declared.course.Call.TheVariants as call
 use Rattle.ledger.specs.declared.refusal.Refusal.TheVariants as refusal
 use Rattle.ledger.specs.declared.state.Award.{Award}
 use Rattle.ledger.specs.declared.state.Book.{Book}
-use Rattle.ledger.specs.Judged.{Rows, given_out}
+use Rattle.ledger.specs.Judged.{Rows, given_out, Answer, Does}
 use Rattle.ledger.specs.Course.{course}
 use Rattle.ledger.specs.Form.{facility_at, award_at, held_under}
 use Rattle.ledger.specs.Awarding.{over_firm}
@@ -27,9 +27,13 @@ shifted held giver taker kw = slice_set (slice_set held giver (slice_index held 
 
 -- the award with other holdings
 abbrev pub with_held : Award → List ℕ → Award
-with_held a held = record { kw = a.kw; price = a.price; held = held }
+with_held a held = record a { held = held }
 
 abbrev pub ceded : Book → ℕ → ℕ → ℕ → ℕ → Book
 ceded b a giver taker kw =
     let old = award_at b.trade (a - 1) in
     with_trade b (record { items = slice_set b.trade.items (a - 1) (with_held old (shifted old.held (giver - 1) (taker - 1) kw)) })
+
+-- a cession on the book b answers r and leaves the book b'
+abbrev pub Cedes : Book → ℕ → ℕ → ℕ → ℕ → Answer (Unit {0}) → Book → Type 0
+Cedes b a giver taker kw r b' = Does (cede_rows b a giver taker kw) (Ok tt) (ceded b a giver taker kw) b r b'

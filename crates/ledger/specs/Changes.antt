@@ -1,4 +1,4 @@
--- A book with one part changed. Assumes nothing.
+-- A book with one part changed.
 use Rattle.std.specs.Prelude.{List}
 use Rattle.calendar.specs.Calendar.{Calendar}
 use Rattle.ledger.specs.declared.state.Stage.{Stage}
@@ -7,16 +7,16 @@ use Rattle.ledger.specs.declared.state.Book.{Book}
 use Rattle.ledger.specs.Form.{Register, Trade}
 
 abbrev pub with_calendar : Book → Calendar → Book
-with_calendar b x = record { calendar = x; stage = b.stage; register = b.register; trade = b.trade; month = b.month; lines = b.lines }
+with_calendar b x = record b { calendar = x }
 
 abbrev pub with_stage : Book → Stage → Book
-with_stage b x = record { calendar = b.calendar; stage = x; register = b.register; trade = b.trade; month = b.month; lines = b.lines }
+with_stage b x = record b { stage = x }
 
 abbrev pub with_register : Book → Register → Book
-with_register b x = record { calendar = b.calendar; stage = b.stage; register = x; trade = b.trade; month = b.month; lines = b.lines }
+with_register b x = record b { register = x }
 
 abbrev pub with_trade : Book → Trade → Book
-with_trade b x = record { calendar = b.calendar; stage = b.stage; register = b.register; trade = x; month = b.month; lines = b.lines }
+with_trade b x = record b { trade = x }
 
 abbrev pub with_month : Book → List Filed → Book
-with_month b x = record { calendar = b.calendar; stage = b.stage; register = b.register; trade = b.trade; month = x; lines = b.lines }
+with_month b x = record b { month = x }

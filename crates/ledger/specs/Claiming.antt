@@ -1,12 +1,12 @@
--- Claims, and dismissing them. Serves src/claiming.rt. Assumes nothing.
-use Rattle.std.specs.Prelude.{ℕ, ◌-◌, Bool, true, false, not, List, [], ◌∷◌, ◌++◌, length, slice_set}
+-- Claims, and dismissing them. Serves src/claiming.rt.
+use Rattle.std.specs.Prelude.{ℕ, ◌-◌, Bool, true, false, not, List, [], ◌∷◌, ◌++◌, length, Ok, slice_set}
 use Rattle.ledger.specs.declared.course.Call.TheVariants as call
 use Rattle.ledger.specs.declared.refusal.Refusal.TheVariants as refusal
 use Rattle.ledger.specs.declared.state.Claim.{Claim}
 use Rattle.ledger.specs.declared.state.Claim.TheVariants as claim
 use Rattle.ledger.specs.declared.state.Filed.{Filed}
 use Rattle.ledger.specs.declared.state.Book.{Book}
-use Rattle.ledger.specs.Judged.{Rows, given_out}
+use Rattle.ledger.specs.Judged.{Rows, given_out, Answer, Does}
 use Rattle.ledger.specs.Course.{course}
 use Rattle.ledger.specs.Form.{filed_at}
 use Rattle.ledger.specs.Changes.{with_month}
@@ -18,18 +18,16 @@ claim_of b f = (filed_at b.month (f - 1)).claim
 -- a claim was made, answered or not
 abbrev pub was_made : Claim → Bool
 was_made claim.None = false
-was_made claim.Open = true
-was_made claim.Answered = true
+was_made _ = true
 
 -- a claim waits for an answer
 abbrev pub is_open : Claim → Bool
-is_open claim.None = false
 is_open claim.Open = true
-is_open claim.Answered = false
+is_open _ = false
 
 -- the month with another claim of the facility f
 abbrev pub put_claim : List Filed → ℕ → Claim → List Filed
-put_claim m f x = slice_set m (f - 1) (record { measured = (filed_at m (f - 1)).measured; claim = x })
+put_claim m f x = slice_set m (f - 1) (record (filed_at m (f - 1)) { claim = x })
 
 -- the book with another claim of the facility f
 abbrev pub with_claim : Book → ℕ → Claim → Book
@@ -58,3 +56,10 @@ dismiss_rows b f =
 
 abbrev pub dismissed : Book → ℕ → Book
 dismissed b f = with_claim b f claim.Answered
+
+-- a claim on the book b answers r and leaves the book b', and so does dismissing one
+abbrev pub MakesClaim : Book → ℕ → Answer (Unit {0}) → Book → Type 0
+MakesClaim b f r b' = Does (claim_rows b f) (Ok tt) (claimed b f) b r b'
+
+abbrev pub Dismisses : Book → ℕ → Answer (Unit {0}) → Book → Type 0
+Dismisses b f r b' = Does (dismiss_rows b f) (Ok tt) (dismissed b f) b r b'

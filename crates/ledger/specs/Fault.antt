@@ -1,4 +1,4 @@
--- What the fault of a refused call says, and how it is printed. Serves src/fault.rt. Assumes nothing.
+-- What the fault of a refused call says, and how it is printed. Serves src/fault.rt.
 use Rattle.std.specs.Prelude.{ℕ, List, codes}
 use Rattle.calendar.specs.Faults as calendar
 use Rattle.calendar.specs.Faults.{refusal_text}

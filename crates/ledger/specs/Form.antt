@@ -1,5 +1,5 @@
 -- What every ledger keeps of its book, a name for each fact, and how a book is read at a place. Places count from 0:
--- facility 1 stands at place 0. Serves the whole crate. Assumes nothing.
+-- facility 1 stands at place 0. Serves the whole crate.
 use Rattle.std.specs.Prelude.{◌≡◌, ℕ, ◌<◌, ◌≤◌, false, List, [], length, sum_by, sum, None, slice_index, slice_index_or}
 use Rattle.arrayvec.specs.ArrayVec.{ArrayVec}
 use Rattle.ledger.specs.declared.state.Stage.{Stage}

@@ -1,5 +1,5 @@
--- How a call's table of refusals is read: from the top, the first row that applies.
-use Rattle.std.specs.Prelude.{ℕ, Bool, cond, ◌&&◌, List, [], ◌∷◌, Ok, Err, Result, nat_le}
+-- How a call's table of refusals is read, from the top, the first row that applies; and what a call answers and leaves.
+use Rattle.std.specs.Prelude.{◌≡◌, ℕ, Bool, cond, ◌&&◌, List, [], ◌∷◌, Ok, Err, Result, nat_le}
 pub use Rattle.calendar.specs.Judged.{judged, kept_or}
 use Rattle.ledger.specs.declared.refusal.Refusal.{Refusal}
 use Rattle.ledger.specs.declared.fault.LedgerFault.{LedgerFault}
@@ -13,6 +13,18 @@ Rows = List (Bool × Refusal)
 abbrev pub ruled : {A : Type 0} → Rows → Result A LedgerFault → Result A LedgerFault
 ruled [] answer = answer
 ruled (r ∷ rs) answer = cond r.0 (Err (fault.Own r.1)) (ruled rs answer)
+
+-- what a call answers
+abbrev pub Answer : Type 0 → Type 0
+Answer A = Result A LedgerFault
+
+-- What a call answers and leaves: the refusal of the first row that applies, or the answer given when none does; and what
+-- stood, changed where the call was accepted.
+abbrev pub Does : {A B : Type 0} → Rows → Answer A → B → B → Answer A → B → Type 0
+Does rows answer changed stood r after = record {
+  answer : r ≡ ruled rows answer;
+  after : after ≡ kept_or r changed stood;
+}
 
 -- an answer, with a plain value in place of the one that it has
 abbrev pub plainly : {A B E : Type 0} → (A → B) → Result A E → Result B E

@@ -1,4 +1,4 @@
--- What a call refuses of the numbers that it is given. Serves src/numbers.rt. Assumes nothing.
+-- What a call refuses of the numbers that it is given. Serves src/numbers.rt.
 use Rattle.std.specs.Prelude.{ℕ, not, [], ◌∷◌, ◌++◌, length}
 use Rattle.ledger.specs.declared.course.Call.{Call}
 use Rattle.ledger.specs.declared.refusal.Refusal.TheVariants as refusal

@@ -6,8 +6,8 @@ use Rattle.ledger.specs.declared.course.Call.TheVariants as call
 use Rattle.ledger.specs.declared.fault.LedgerFault.{LedgerFault}
 use Rattle.ledger.specs.declared.fault.LedgerFault.TheVariants as fault
 use Rattle.ledger.specs.declared.state.Book.{Book}
-use Rattle.ledger.specs.Judged.{judged}
-use Rattle.ledger.specs.Course.{moved}
+use Rattle.ledger.specs.Judged.{judged, Answer, Does}
+use Rattle.ledger.specs.Course.{course, moved}
 use Rattle.ledger.specs.Changes.{with_calendar, with_stage}
 
 -- a calendar that was filled is taken; a fault of the calendar is carried whole
@@ -22,3 +22,8 @@ year_answer year firsts lengths = fill_answer (judged (fill_rows year firsts len
 -- the calendar is of the year that was given, and month 1 is in trading
 abbrev pub opened : Book → ℕ → List ℕ → List ℕ → Book
 opened b year firsts lengths = with_stage (with_calendar b (given_year year firsts lengths)) (moved call.Open b.stage)
+
+-- an opening on the book b answers r and leaves the book b'
+abbrev pub Opens : Book → ℕ → List ℕ → List ℕ → Answer (Unit {0}) → Book → Type 0
+Opens b year firsts lengths r b' =
+    Does (course call.Open b.stage) (year_answer year firsts lengths) (opened b year firsts lengths) b r b'

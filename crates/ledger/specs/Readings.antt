@@ -1,4 +1,4 @@
--- Readings that refuse nothing. Serves src/readings.rt. Assumes nothing.
+-- Readings that refuse nothing. Serves src/readings.rt.
 use Rattle.std.specs.Prelude.{ℕ, ◌-◌, cond, ◌&&◌, List, length, take, Option, Some, None}
 use Rattle.ledger.specs.declared.state.Line.{Line}
 use Rattle.ledger.specs.declared.state.Book.{Book}

@@ -1,4 +1,4 @@
--- The numbers of the ledger's own refusals. Serves src/refusal.rt. Assumes nothing.
+-- The numbers of the ledger's own refusals. Serves src/refusal.rt.
 use Rattle.std.specs.Prelude.{ℕ}
 use Rattle.ledger.specs.declared.refusal.Refusal.{Refusal}
 use Rattle.ledger.specs.declared.refusal.Refusal.TheVariants as refusal

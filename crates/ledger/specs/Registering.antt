@@ -1,12 +1,11 @@
--- Registering: its figures, its refusals, firm power, and the facility that it adds. Serves src/registering.rt. Assumes
--- nothing.
-use Rattle.std.specs.Prelude.{ℕ, ◌*◌, ◌/◌, min, Bool, false, not, ◌&&◌, List, [], ◌∷◌, ◌++◌, length, take, sum_by, nat_le}
+-- Registering: its figures, its refusals, firm power, and the facility that it adds. Serves src/registering.rt.
+use Rattle.std.specs.Prelude.{ℕ, ◌+◌, ◌*◌, ◌/◌, min, Bool, false, not, ◌&&◌, List, [], ◌∷◌, ◌++◌, length, take, sum_by, Ok, nat_le}
 use Rattle.std.specs.List.{list_all}
 use Rattle.ledger.specs.declared.course.Call.TheVariants as call
 use Rattle.ledger.specs.declared.refusal.Refusal.TheVariants as refusal
 use Rattle.ledger.specs.declared.registering.Module.{Module}
 use Rattle.ledger.specs.declared.state.Book.{Book}
-use Rattle.ledger.specs.Judged.{Rows}
+use Rattle.ledger.specs.Judged.{Rows, Answer, Does}
 use Rattle.ledger.specs.Course.{course}
 use Rattle.ledger.specs.Changes.{with_register}
 
@@ -43,3 +42,9 @@ register_rows b letter modules count access =
 -- one facility more, switched off
 abbrev pub registered : Book → ℕ → ℕ → Book
 registered b letter firm = with_register b (record { items = b.register.items ++ (record { letter = letter; firm = firm; on = false }) ∷ [] })
+
+-- a registering on the book b answers r, the facility's number where it is accepted, and leaves the book b'
+abbrev pub Registers : Book → ℕ → List Module → ℕ → ℕ → Answer ℕ → Book → Type 0
+Registers b letter modules count access r b' =
+    Does (register_rows b letter modules count access) (Ok (length b.register.items + 1))
+    (registered b letter (firm_power modules count access)) b r b'

@@ -1,8 +1,8 @@
 //! Awarding kW to a facility.
-ghost use Rattle.std.specs.Prelude.{◌≡◌, ◌+◌, ◌≤◌, ◌↔◌, ◌∷◌, length, IsTrue, Ok, Err};
-ghost use Rattle.ledger.specs.Judged.{given_out, judged, plainly, ruled, kept_or};
+ghost use Rattle.std.specs.Prelude.{◌≡◌, ◌+◌, ◌≤◌, ◌↔◌, ◌∷◌, length, IsTrue, Err};
+ghost use Rattle.ledger.specs.Judged.{given_out, judged, plainly};
 ghost use Rattle.ledger.specs.Course.{belongs};
-ghost use Rattle.ledger.specs.Awarding.{over_firm, right_award, award_rows, new_award, awarded};
+ghost use Rattle.ledger.specs.Awarding.{over_firm, right_award, award_rows, new_award, Awards};
 ghost use Rattle.ledger.specs.Entries.{Journal, awarding};
 ghost use Rattle.ledger.specs.Runs.{Recorded};
 
@@ -22,8 +22,7 @@ const MOST_PRICE: u32 = 100_000;
 impl Ledger {
     /// Awards kW to a facility, which then holds them all, and answers the award's number.
     pub fn award(&mut self, facility: u32, kw: u32, price: u32) -> Result<u32, LedgerFault>
-        ensures answer { result ≡ ruled (award_rows self.old.book facility kw price) (Ok (length self.old.book.trade.items + 1)) }
-        ensures after { self.new.book ≡ kept_or result (awarded self.old.book facility kw price) self.old.book }
+        ensures awards { Awards self.old.book facility kw price result self.new.book }
         ensures full { (result ≡ Err (LedgerFault.Own Refusal.NoRoom))
             ↔ (IsTrue (belongs Call.Award self.old.book.stage)
             × IsTrue (given_out facility (length self.old.book.register.items))

@@ -1,7 +1,7 @@
 //! Ceding kW of an award from one facility to another.
-ghost use Rattle.std.specs.Prelude.{◌≡◌, ℕ, ◌+◌, ◌-◌, ◌≤◌, ◌∷◌, Ok, ◌≢◌, slice_index};
-ghost use Rattle.ledger.specs.Judged.{judged, plainly, ruled, kept_or};
-ghost use Rattle.ledger.specs.Ceding.{cede_rows, shifted, with_held, ceded};
+ghost use Rattle.std.specs.Prelude.{◌≡◌, ℕ, ◌+◌, ◌-◌, ◌≤◌, ◌∷◌, ◌≢◌, slice_index};
+ghost use Rattle.ledger.specs.Judged.{judged, plainly};
+ghost use Rattle.ledger.specs.Ceding.{cede_rows, shifted, with_held, Cedes};
 ghost use Rattle.ledger.specs.Entries.{Journal, ceding};
 ghost use Rattle.ledger.specs.Runs.{Recorded};
 
@@ -14,8 +14,7 @@ use crate::{LedgerFault, Refusal};
 impl Ledger {
     /// Moves kW of an award from the giver to the taker.
     pub fn cede(&mut self, award: u32, giver: u32, taker: u32, kw: u32) -> Result<(), LedgerFault>
-        ensures answer { result ≡ ruled (cede_rows self.old.book award giver taker kw) (Ok tt) }
-        ensures after { self.new.book ≡ kept_or result (ceded self.old.book award giver taker kw) self.old.book }
+        ensures cedes { Cedes self.old.book award giver taker kw result self.new.book }
         ensures recorded { (j : Journal) → Recorded j self.old → Recorded (ceding award giver taker kw result ∷ j) self.new }
     {
         let (award, giver, taker) = self.may_cede(award, giver, taker, kw)?;

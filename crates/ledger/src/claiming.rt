@@ -1,7 +1,7 @@
 //! Claims of a month, and dismissing them.
-ghost use Rattle.std.specs.Prelude.{◌≡◌, ◌∷◌, Ok};
-ghost use Rattle.ledger.specs.Judged.{judged, ruled, kept_or};
-ghost use Rattle.ledger.specs.Claiming.{claim_of, with_claim, claim_rows, claimed, unclaimed_rows, answer_rows, dismiss_rows, dismissed};
+ghost use Rattle.std.specs.Prelude.{◌≡◌, ◌∷◌};
+ghost use Rattle.ledger.specs.Judged.{judged};
+ghost use Rattle.ledger.specs.Claiming.{claim_of, with_claim, unclaimed_rows, answer_rows, MakesClaim, Dismisses};
 ghost use Rattle.ledger.specs.Entries.{Journal, claiming, dismissing};
 ghost use Rattle.ledger.specs.Runs.{Recorded};
 
@@ -15,8 +15,7 @@ impl Ledger {
     /// Notes the facility's claim of the month.
     #[tactic(auto, using(crate::specs::Runs::noted))]
     pub fn claim(&mut self, facility: u32) -> Result<(), LedgerFault>
-        ensures answer { result ≡ ruled (claim_rows self.old.book facility) (Ok tt) }
-        ensures after { self.new.book ≡ kept_or result (claimed self.old.book facility) self.old.book }
+        ensures makes_claim { MakesClaim self.old.book facility result self.new.book }
         ensures recorded { (j : Journal) → Recorded j self.old → Recorded (claiming facility result ∷ j) self.new }
     {
         let facility = self.admitted(Call::Claim, facility)?;
@@ -28,8 +27,7 @@ impl Ledger {
     /// Answers the facility's claim and leaves its report as it stands.
     #[tactic(auto, using(crate::specs::Runs::noted))]
     pub fn dismiss(&mut self, facility: u32) -> Result<(), LedgerFault>
-        ensures answer { result ≡ ruled (dismiss_rows self.old.book facility) (Ok tt) }
-        ensures after { self.new.book ≡ kept_or result (dismissed self.old.book facility) self.old.book }
+        ensures dismisses { Dismisses self.old.book facility result self.new.book }
         ensures recorded { (j : Journal) → Recorded j self.old → Recorded (dismissing facility result ∷ j) self.new }
     {
         let facility = self.admitted(Call::Answer, facility)?;

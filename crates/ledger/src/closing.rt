@@ -1,11 +1,9 @@
 //! Closing a month.
 ghost use Rattle.std.specs.Prelude.{◌≡◌, ◌≤◌, ◌∷◌, length, OnOk};
-ghost use Rattle.sharing.specs.Rows.{mwhs, charged};
-ghost use Rattle.ledger.specs.Judged.{judged, ruled, kept_or};
+ghost use Rattle.ledger.specs.Judged.{judged};
 ghost use Rattle.ledger.specs.Course.{moved};
 ghost use Rattle.ledger.specs.declared.course.Call.TheVariants as made;
-ghost use Rattle.ledger.specs.Settling.{total_now, shared};
-ghost use Rattle.ledger.specs.Closing.{some_open, unsettled_rows, close_rows, booked_month, closed};
+ghost use Rattle.ledger.specs.Closing.{some_open, unsettled_rows, booked_month, Closes};
 ghost use Rattle.ledger.specs.Entries.{Journal, closing};
 ghost use Rattle.ledger.specs.Runs.{Recorded};
 
@@ -22,11 +20,10 @@ impl Ledger {
     /// Books the month, writes each buyer's charge into its row, starts the next month, and answers the month's total.
     #[tactic(auto, using(crate::specs::Runs::noted))]
     pub fn close<R: SharingRule>(&mut self, rule: &R, rows: &mut [Row]) -> Result<u64, LedgerFault>
-        ensures answer { result ≡ ruled (close_rows self.old.book rows.old) (shared (total_now self.old.book) (R.weights rule.now (total_now self.old.book) (mwhs rows.old))) }
+        ensures closes { Closes self.old.book (R.meaning rule.now) rows.old result self.new.book rows.new }
         ensures most { OnOk result (length rows.old ≤ MOST_ROWS) }
-        ensures rows { rows.new ≡ kept_or result (charged rows.old (R.charges rule.now (total_now self.old.book) (mwhs rows.old))) rows.old }
-        ensures after { self.new.book ≡ kept_or result (closed self.old.book) self.old.book }
-        ensures recorded { (j : Journal) → Recorded j self.old → Recorded (closing (record { weights = R.weights rule.now; charges = R.charges rule.now }) rows.old result rows.new ∷ j) self.new }
+        ensures recorded { (j : Journal) → Recorded j self.old →
+            Recorded (closing (R.meaning rule.now) rows.old result rows.new ∷ j) self.new }
     {
         let stage = self.may_close()?;
         let (lines, total) = self.settle();

@@ -1,7 +1,6 @@
 //! Cutting off: the end of a month's trading.
-ghost use Rattle.std.specs.Prelude.{◌≡◌, ◌∷◌, Ok};
-ghost use Rattle.ledger.specs.Judged.{ruled, kept_or};
-ghost use Rattle.ledger.specs.Cutting.{cut_rows, cut};
+ghost use Rattle.std.specs.Prelude.{◌∷◌};
+ghost use Rattle.ledger.specs.Cutting.{CutsOff};
 ghost use Rattle.ledger.specs.Entries.{Journal, cutting};
 ghost use Rattle.ledger.specs.Runs.{Recorded};
 
@@ -13,8 +12,7 @@ impl Ledger {
     /// Ends the month's trading. From here to the closing no holding and no switch changes.
     #[tactic(auto, using(crate::specs::Runs::noted))]
     pub fn cut_off(&mut self) -> Result<(), LedgerFault>
-        ensures answer { result ≡ ruled (cut_rows self.old.book) (Ok tt) }
-        ensures after { self.new.book ≡ kept_or result (cut self.old.book) self.old.book }
+        ensures cuts_off { CutsOff self.old.book result self.new.book }
         ensures recorded { (j : Journal) → Recorded j self.old → Recorded (cutting result ∷ j) self.new }
     {
         self.book.stage = turn(self.book.stage, Call::CutOff)?;

@@ -1,9 +1,6 @@
 //! Opening the year with its calendar.
-ghost use Rattle.std.specs.Prelude.{◌≡◌, ◌∷◌};
-ghost use Rattle.ledger.specs.Judged.{ruled, kept_or};
-ghost use Rattle.ledger.specs.Course.{course};
-ghost use Rattle.ledger.specs.declared.course.Call.TheVariants as made;
-ghost use Rattle.ledger.specs.Opening.{year_answer, opened};
+ghost use Rattle.std.specs.Prelude.{◌∷◌};
+ghost use Rattle.ledger.specs.Opening.{Opens};
 ghost use Rattle.ledger.specs.Entries.{Journal, opening};
 ghost use Rattle.ledger.specs.Runs.{Recorded};
 
@@ -20,8 +17,7 @@ impl Ledger {
         firsts: &[u16],
         lengths: &[u16],
     ) -> Result<(), LedgerFault>
-        ensures answer { result ≡ ruled (course made.Open self.old.book.stage) (year_answer year_hours firsts.now lengths.now) }
-        ensures after { self.new.book ≡ kept_or result (opened self.old.book year_hours firsts.now lengths.now) self.old.book }
+        ensures opens { Opens self.old.book year_hours firsts.now lengths.now result self.new.book }
         ensures recorded { (j : Journal) → Recorded j self.old → Recorded (opening year_hours firsts.now lengths.now result ∷ j) self.new }
     {
         let stage = turn(self.book.stage, Call::Open)?;

@@ -1,8 +1,8 @@
 //! Registering a facility, and its firm power.
-ghost use Rattle.std.specs.Prelude.{◌≡◌, ◌+◌, ◌≤◌, ◌↔◌, true, ◌∷◌, take, length, sum_by, IsTrue, Ok, Err};
-ghost use Rattle.ledger.specs.Judged.{judged, ruled, kept_or};
+ghost use Rattle.std.specs.Prelude.{◌≡◌, ◌+◌, ◌≤◌, ◌↔◌, true, ◌∷◌, take, length, sum_by, IsTrue, Err};
+ghost use Rattle.ledger.specs.Judged.{judged};
 ghost use Rattle.ledger.specs.Course.{belongs};
-ghost use Rattle.ledger.specs.Registering.{right_module, right_modules, right_count, right_figures, watts, firm_power, register_rows, registered};
+ghost use Rattle.ledger.specs.Registering.{right_module, right_modules, right_count, right_figures, watts, firm_power, register_rows, Registers};
 ghost use Rattle.ledger.specs.Entries.{Journal, registering};
 ghost use Rattle.ledger.specs.Runs.{Recorded};
 
@@ -49,8 +49,7 @@ impl Ledger {
         count: u32,
         access: u32,
     ) -> Result<u32, LedgerFault>
-        ensures answer { result ≡ ruled (register_rows self.old.book letter modules count access) (Ok (length self.old.book.register.items + 1)) }
-        ensures after { self.new.book ≡ kept_or result (registered self.old.book letter (firm_power modules count access)) self.old.book }
+        ensures registers { Registers self.old.book letter modules count access result self.new.book }
         ensures full { (result ≡ Err (LedgerFault.Own Refusal.NoRoom))
             ↔ (IsTrue (belongs Call.Register self.old.book.stage)
             × (length self.old.book.register.items ≡ MOST_FACILITIES)) }

@@ -1,9 +1,9 @@
 //! Taking a facility's report of the month.
 ghost use Rattle.std.specs.Prelude.{◌≡◌, ◌∷◌, Ok};
-ghost use Rattle.ledger.specs.Judged.{judged, plainly, ruled, kept_or};
-ghost use Rattle.ledger.specs.Reporting.{letter_rows, measured_for, taken, with_measured};
-ghost use Rattle.ledger.specs.declared.course.Call.TheVariants as made;
-ghost use Rattle.ledger.specs.Entries.{Journal, reporting, meant};
+ghost use Rattle.metering.specs.Meaning.{report_meaning};
+ghost use Rattle.ledger.specs.Judged.{judged, plainly};
+ghost use Rattle.ledger.specs.Reporting.{letter_rows, measured_for, with_measured, Reports};
+ghost use Rattle.ledger.specs.Entries.{Journal, reporting};
 ghost use Rattle.ledger.specs.Runs.{Recorded};
 
 use crate::course::Call;
@@ -16,9 +16,9 @@ use metering::{Kind, Measured, MeteringFault, Report, measure};
 impl Ledger {
     /// Takes the facility's report, in place of any that it made before in the month.
     pub fn report<K: Kind>(&mut self, facility: u32, report: &Report<K>) -> Result<(), LedgerFault>
-        ensures answer { result ≡ ruled (letter_rows made.Report self.old.book facility K.LETTER) (taken (measured_for K.SHORTEST K.LONGEST K.credit self.old.book facility report.now.hours.now report.now.test)) }
-        ensures after { self.new.book ≡ kept_or result (with_measured self.old.book facility (measured_for K.SHORTEST K.LONGEST K.credit self.old.book facility report.now.hours.now report.now.test)) self.old.book }
-        ensures recorded { (j : Journal) → Recorded j self.old → Recorded (reporting facility (meant K.LETTER K.SHORTEST K.LONGEST K.credit report.now.hours.now report.now.test) result ∷ j) self.new }
+        ensures reports { Reports self.old.book facility (report_meaning K.Kind report.now) result self.new.book }
+        ensures recorded { (j : Journal) → Recorded j self.old →
+            Recorded (reporting facility (report_meaning K.Kind report.now) result ∷ j) self.new }
     {
         let facility = self.may_report(Call::Report, facility, K::LETTER)?;
         let measured = self.measured(facility, report)?;
@@ -48,7 +48,7 @@ impl Ledger {
         facility: FacilityNumber,
         report: &Report<K>,
     ) -> Result<Measured, MeteringFault>
-        ensures { result ≡ measured_for K.SHORTEST K.LONGEST K.credit self.now.book facility.number report.now.hours.now report.now.test }
+        ensures { result ≡ measured_for self.now.book facility.number (report_meaning K.Kind report.now) }
     {
         let commitment = self.commitment(facility);
         let month = self.book.stage.month();

@@ -1,9 +1,9 @@
 //! What the advance and the closing share: the limits of the rows, and sharing the month's total over them.
 ghost use Rattle.std.specs.Prelude.{◌≡◌, ◌≤◌};
-ghost use Rattle.sharing.specs.Rows.{mwhs, charged};
+ghost use Rattle.sharing.specs.Rows.{mwhs};
 ghost use Rattle.sharing.specs.Rule.{Shareable};
 ghost use Rattle.ledger.specs.Judged.{judged, ruled, kept_or};
-ghost use Rattle.ledger.specs.Settling.{rows_within, limit_rows, shared};
+ghost use Rattle.ledger.specs.Settling.{rows_within, limit_rows, shared_answer, charged_rows};
 
 use crate::{LedgerFault, Refusal};
 use sharing::{MOST_ROWS, Row, SharingRule, total_mwh};
@@ -18,8 +18,8 @@ pub(crate) fn share_within<R: SharingRule>(
     rows: &mut [Row],
 ) -> Result<u64, LedgerFault>
     requires { total ≤ 30_000_000_000 }
-    ensures answer { result ≡ ruled (limit_rows rows.old) (shared total (R.weights rule.now total (mwhs rows.old))) }
-    ensures rows { rows.new ≡ kept_or result (charged rows.old (R.charges rule.now total (mwhs rows.old))) rows.old }
+    ensures answer { result ≡ ruled (limit_rows rows.old) (shared_answer (R.meaning rule.now) total rows.old) }
+    ensures rows { rows.new ≡ kept_or result (charged_rows (R.meaning rule.now) total rows.old) rows.old }
 {
     check_rows(rows)?;
     share(rule, total, rows)
@@ -45,8 +45,8 @@ fn rows_within(rows: &[Row]) -> bool
 /// Shares the total over the rows by the rule, and answers it.
 fn share<R: SharingRule>(rule: &R, total: u64, rows: &mut [Row]) -> Result<u64, LedgerFault>
     requires { Shareable total (mwhs rows.old) }
-    ensures answer { result ≡ shared total (R.weights rule.now total (mwhs rows.old)) }
-    ensures rows { rows.new ≡ kept_or result (charged rows.old (R.charges rule.now total (mwhs rows.old))) rows.old }
+    ensures answer { result ≡ shared_answer (R.meaning rule.now) total rows.old }
+    ensures rows { rows.new ≡ kept_or result (charged_rows (R.meaning rule.now) total rows.old) rows.old }
 {
     rule.share(total, rows)?;
     Ok(total)

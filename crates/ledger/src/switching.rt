@@ -1,7 +1,6 @@
 //! Switching a facility on or off.
-ghost use Rattle.std.specs.Prelude.{◌≡◌, ◌∷◌, Ok};
-ghost use Rattle.ledger.specs.Judged.{ruled, kept_or};
-ghost use Rattle.ledger.specs.Switching.{switch_rows, set_on, switched};
+ghost use Rattle.std.specs.Prelude.{◌≡◌, ◌∷◌};
+ghost use Rattle.ledger.specs.Switching.{set_on, Switches};
 ghost use Rattle.ledger.specs.Entries.{Journal, switching};
 ghost use Rattle.ledger.specs.Runs.{Recorded};
 
@@ -14,8 +13,7 @@ impl Ledger {
     /// Puts a facility's switch; all others stay.
     #[tactic(auto, using(crate::specs::Runs::noted))]
     pub fn switch(&mut self, facility: u32, on: bool) -> Result<(), LedgerFault>
-        ensures answer { result ≡ ruled (switch_rows self.old.book facility) (Ok tt) }
-        ensures after { self.new.book ≡ kept_or result (switched self.old.book facility on) self.old.book }
+        ensures switches { Switches self.old.book facility on result self.new.book }
         ensures recorded { (j : Journal) → Recorded j self.old → Recorded (switching facility on result ∷ j) self.new }
     {
         let facility = self.admitted(Call::Switch, facility)?;

@@ -1,4 +1,4 @@
--- How many hours count: the stress hours, and the failed hours of the test that are no stress hours. Assumes nothing.
+-- How many hours count: the stress hours, and the failed hours of the test that are no stress hours.
 use Rattle.std.proofs.Common.{◌≡◌, ℕ, zero, suc, ◌+◌, ◌-◌, ◌<◌, ◌≤◌, Bool, true, false, cond, not, ◌&&◌, ◌||◌, List, [], ◌∷◌, length, Some, Ok, count_by, refl, ap, arith}
 use Rattle.std.specs.List.{range_with_len}
 use Rattle.std.proofs.lemmas.List.Sums.{sum_by-cons, length-filter}
@@ -8,8 +8,9 @@ use Rattle.calendar.specs.Months.{month_begins, month_ends, month_hours}
 use Rattle.calendar.specs.Stress.{is_stress, stress_hours}
 use Rattle.metering.specs.declared.report.Energy.{Energy}
 use Rattle.metering.specs.declared.report.Test.{Test}
+use Rattle.metering.specs.Meaning.{ReportMeaning}
 use Rattle.metering.specs.Testing.{failed_at}
-use Rattle.metering.specs.Measuring.{counted_hours, only_failed, failed_outside, test_in_order, counting_with}
+use Rattle.metering.specs.Measuring.{counted_hours, only_failed, failed_outside, test_in_order, counting}
 
 -- what passes either test, counted once: what passes the first, and what passes only the second
 pub count_either : {X : Type 0} (p q : X → Bool) (xs : List X) → count_by (λ x. p x || q x) xs ≡ count_by p xs + count_by (λ x. q x && not (p x)) xs
@@ -54,7 +55,7 @@ counted_with_test c m first es in_month fits =
     omega (arith, length-filter (λ h. is_stress c h || fails h) hours, count_either (is_stress c) fails hours, length-filter (is_stress c) hours, in-test)
 
 -- what is counted with a test in order
-pub counts_with : (shortest longest : ℕ) (c : Calendar) (m : ℕ) (t : Test) (hours : ℕ) → test_in_order shortest longest c m (Some t) ≡ true → hours ≡ length (stress_hours c m) + failed_outside c t.first t.hours.now → Ok hours ≡ counting_with shortest longest c m (Some t)
-counts_with shortest longest c m t hours ok is =
+pub counts_with : (x : ReportMeaning) (c : Calendar) (m : ℕ) (t : Test) (hours : ℕ) → test_in_order x.shortest x.longest c m (Some t) ≡ true → hours ≡ length (stress_hours c m) + failed_outside c t.first t.hours.now → Ok hours ≡ counting (record x { test = Some t }) c m
+counts_with x c m t hours ok is =
     let counted = counted_with_test c m t.first t.hours.now (grind (arith, nat_tests)) (grind (arith, nat_tests)) in
     rw ok (cc (is, counted))

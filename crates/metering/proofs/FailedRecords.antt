@@ -1,4 +1,4 @@
--- Which records are of failed hours, and what the others are credited. Assumes nothing.
+-- Which records are of failed hours, and what the others are credited.
 use Rattle.std.proofs.Common.{◌≡◌, ℕ, zero, suc, ◌+◌, ◌<◌, ◌≤◌, Bool, false, not, List, [], ◌∷◌, ◌++◌, length, take, set, map, filter, replicate, refl, sym, ap, ◌∙◌, inl, inr, append_assoc, None, arith}
 use Rattle.std.specs.List.{zip}
 use Rattle.std.proofs.lemmas.List.{take_more_set, append-nil}
@@ -25,7 +25,7 @@ module _ (fails : ℕ → Bool) (hours to_come : List ℕ) (n : ℕ) (failed : L
       rw (← all) (sym (append-nil (take n failed)) ∙ rw none at marks)
 
 -- what the records that are not marked are credited is what the hours that did not fail are
-pub unfailed_is_credited : {H : Type 0} (credit : H → ℕ → ℕ) (k : ℕ) (fails : ℕ → Bool) (hours : List ℕ) (records : List H) (failed : List Bool) → length records ≡ length hours → take (length hours) failed ≡ map fails hours → unfailed_energy credit k failed records ≡ credited_energy credit k fails hours records
+pub unfailed_is_credited : {H : Type 0} (credit : H → ℕ → ℕ) (k : ℕ) (fails : ℕ → Bool) (hours : List ℕ) (records : List H) (failed : List Bool) → length records ≡ length hours → take (length hours) failed ≡ map fails hours → unfailed_energy credit k failed records ≡ credited_energy k fails hours (map credit records)
 unfailed_is_credited credit k fails [] [] failed one_each marks = refl
 unfailed_is_credited credit k fails [] (r ∷ records) failed one_each marks = absurd (omega arith)
 unfailed_is_credited credit k fails (h ∷ hours) [] failed one_each marks = absurd (omega arith)
@@ -35,5 +35,5 @@ unfailed_is_credited credit k fails (h ∷ hours) (r ∷ records) (f ∷ failed)
     let rest = unfailed_is_credited credit k fails hours records failed (omega arith) (cc) in
     rw own (elim (cases_Bool (fails h)) [
       | inl fell ↦ rw fell rest
-      | inr passed ↦ rw passed (omega (arith, rest, sum_by-cons (λ p. credit p.0 k) (r, f) (filter (λ p. not p.1) (zip records failed)), sum_by-cons (λ p. credit p.1 k) (h, r) (filter (λ p. not (fails p.0)) (zip hours records))))
+      | inr passed ↦ rw passed (omega (arith, rest, sum_by-cons (λ p. credit p.0 k) (r, f) (filter (λ p. not p.1) (zip records failed)), sum_by-cons (λ p. p.1 k) (h, credit r) (filter (λ p. not (fails p.0)) (zip hours (map credit records)))))
     ])

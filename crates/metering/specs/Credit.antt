@@ -1,4 +1,4 @@
--- What an hour record of each built-in kind is worth under a commitment of k kW. Serves src/kind.rt. Assumes nothing.
+-- What an hour record of each built-in kind is worth under a commitment of k kW. Serves src/kind.rt.
 use Rattle.std.specs.Prelude.{ℕ, ◌-◌, min, cond, nat_le, nat_lt}
 use Rattle.metering.specs.declared.kind.ThermalHour.{ThermalHour}
 use Rattle.metering.specs.declared.kind.StorageHour.{StorageHour}

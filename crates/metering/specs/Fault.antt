@@ -1,4 +1,4 @@
--- What a refusal of a report says, and how it is printed. Serves src/fault.rt. Assumes nothing.
+-- What a refusal of a report says, and how it is printed. Serves src/fault.rt.
 use Rattle.std.specs.Prelude.{ℕ, List, codes, unwrap_or}
 use Rattle.calendar.specs.Faults.{refusal_text}
 use Rattle.metering.specs.declared.fault.MeteringFault.{MeteringFault}

@@ -1,4 +1,5 @@
 pub mod Credit
 pub mod Testing
 pub mod Fault
+pub mod Meaning
 pub mod Measuring

@@ -1,4 +1,4 @@
--- What a report comes to: counted hours and credited energy. Serves src/measuring.rt. Assumes nothing.
+-- What a report comes to: counted hours and credited energy. Serves src/measuring.rt.
 use Rattle.std.specs.Prelude.{ℕ, Bool, true, cond, not, ◌&&◌, ◌||◌, List, length, Some, None, Ok, Err, sum_by, count_by, filter, Option, Result, ◌==◌}
 use Rattle.std.specs.List.{zip, range_with_len}
 use Rattle.calendar.specs.Calendar.{Calendar}
@@ -9,6 +9,7 @@ use Rattle.metering.specs.declared.report.Test.{Test}
 use Rattle.metering.specs.declared.measuring.Measured.{Measured}
 use Rattle.metering.specs.declared.fault.MeteringFault.{MeteringFault}
 use Rattle.metering.specs.declared.fault.MeteringFault.TheVariants as fault
+use Rattle.metering.specs.Meaning.{ReportMeaning}
 use Rattle.metering.specs.Testing.{failed_at, failed_in, wrong_place, in_order}
 
 -- the hours that count: those of the month that are stress hours or failed in the test, so each of them once
@@ -23,10 +24,9 @@ only_failed c first es h = failed_at first es h && not (is_stress c h)
 abbrev pub failed_outside : Calendar → ℕ → List Energy → ℕ
 failed_outside c first es = count_by (only_failed c first es) (range_with_len first (length es))
 
--- the credits, under a commitment of k kW, of the hours that did not fail, each hour with its record
-abbrev pub credited_energy : {H : Type 0} → (H → ℕ → ℕ) → ℕ → (ℕ → Bool) → List ℕ → List H → ℕ
-credited_energy credit k fails hours records =
-    sum_by (λ p. credit p.1 k) (filter (λ p. not (fails p.0)) (zip hours records))
+-- the credits, under a commitment of k kW, of the hours that did not fail, each hour with its own
+abbrev pub credited_energy : ℕ → (ℕ → Bool) → List ℕ → List (ℕ → ℕ) → ℕ
+credited_energy k fails hours credits = sum_by (λ p. p.1 k) (filter (λ p. not (fails p.0)) (zip hours credits))
 
 -- the credits, under a commitment of k kW, of the records that are not marked as of a failed hour
 abbrev pub unfailed_energy : {H : Type 0} → (H → ℕ → ℕ) → ℕ → List Bool → List H → ℕ
@@ -43,15 +43,21 @@ abbrev pub test_place : Option Test → Option ℕ
 test_place None = None
 test_place (Some t) = wrong_place t.hours.now
 
--- how many hours count with the test, or the refusal of the test
-abbrev pub counting_with : ℕ → ℕ → Calendar → ℕ → Option Test → Result ℕ MeteringFault
-counting_with shortest longest c m test =
-    cond (test_in_order shortest longest c m test) (Ok (length (counted_hours c m (failed_in test)))) (Err (fault.Test (test_place test)))
+-- how many hours count with the report's test, or the refusal of the test
+abbrev pub counting : ReportMeaning → Calendar → ℕ → Result ℕ MeteringFault
+counting x c m =
+    cond (test_in_order x.shortest x.longest c m x.test)
+    (Ok (length (counted_hours c m (failed_in x.test))))
+    (Err (fault.Test (test_place x.test)))
+
+-- the energy credited for the report under a commitment of k kW
+abbrev pub crediting : ReportMeaning → Calendar → ℕ → ℕ → ℕ
+crediting x c m k = credited_energy k (failed_in x.test) (stress_hours c m) x.credits
 
 -- What measuring answers for the month m and a commitment of k kW: refused unless there is one record a stress hour, then
 -- unless the test is in order; else the number of counted hours, and the credited energy.
-abbrev pub measuring : {H : Type 0} → ℕ → ℕ → (H → ℕ → ℕ) → Calendar → ℕ → ℕ → List H → Option Test → Result Measured MeteringFault
-measuring shortest longest credit c m k records test =
-    cond (not (length records == length (stress_hours c m))) (Err fault.Records)
-    (cond (not (test_in_order shortest longest c m test)) (Err (fault.Test (test_place test)))
-    (Ok (record { counted = length (counted_hours c m (failed_in test)); credited = credited_energy credit k (failed_in test) (stress_hours c m) records })))
+abbrev pub measuring : ReportMeaning → Calendar → ℕ → ℕ → Result Measured MeteringFault
+measuring x c m k =
+    cond (not (length x.credits == length (stress_hours c m))) (Err fault.Records)
+    (cond (not (test_in_order x.shortest x.longest c m x.test)) (Err (fault.Test (test_place x.test)))
+    (Ok (record { counted = length (counted_hours c m (failed_in x.test)); credited = crediting x c m k })))

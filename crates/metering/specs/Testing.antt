@@ -1,4 +1,4 @@
--- Tests: which of their hours failed, and when a test is in order. Serves src/testing.rt. Assumes nothing.
+-- Tests: which of their hours failed, and when a test is in order. Serves src/testing.rt.
 use Rattle.std.specs.Prelude.{ℕ, ◌+◌, ◌-◌, ◌*◌, ◌^◌, min, Bool, false, not, ◌&&◌, List, length, Some, None, Option, is_none, position, nat_le, nat_lt, slice_index_or}
 use Rattle.std.specs.Option.{option_map}
 use Rattle.metering.specs.declared.report.Energy.{Energy}

@@ -1,8 +1,9 @@
 //! What a report comes to: counted hours and credited energy.
 ghost use Rattle.std.specs.Prelude.{◌≡◌, ◌+◌, ◌*◌, ◌≤◌, length, take, map, IfOk, IfSome, OnOk};
 ghost use Rattle.calendar.specs.Stress.{stress_hours};
-ghost use Rattle.metering.specs.Testing.{failed_at, failed_in};
-ghost use Rattle.metering.specs.Measuring.{credited_energy, unfailed_energy, failed_outside, counting_with, measuring};
+ghost use Rattle.metering.specs.Testing.{failed_at};
+ghost use Rattle.metering.specs.Meaning.{report_meaning};
+ghost use Rattle.metering.specs.Measuring.{unfailed_energy, failed_outside, counting, crediting, measuring};
 
 use crate::{Kind, MeteringFault, Report, Test};
 use calendar::Calendar;
@@ -40,7 +41,7 @@ pub fn measure<K: Kind>(
     commitment: u32,
     report: &Report<K>,
 ) -> Result<Measured, MeteringFault>
-    ensures answer { result ≡ measuring K.SHORTEST K.LONGEST K.credit calendar.now month commitment report.now.hours.now report.now.test }
+    ensures answer { result ≡ measuring (report_meaning K.Kind report.now) calendar.now month commitment }
     ensures within { IfOk result (λ measured. measured.credited ≤ commitment * measured.counted) }
     ensures tested { OnOk result (IfSome report.now.test (λ test. 1 ≤ length test.hours.now)) }
 {
@@ -66,7 +67,7 @@ pub fn unreported(calendar: &Calendar, month: u32) -> Measured
 impl<K: Kind> Report<'_, '_, K> {
     /// How many hours count in the month; refused where the test is not in order.
     fn counted(&self, calendar: &Calendar, month: u32) -> Result<u32, MeteringFault>
-        ensures { result ≡ counting_with K.SHORTEST K.LONGEST calendar.now month self.now.test }
+        ensures { result ≡ counting (report_meaning K.Kind self.now) calendar.now month }
     {
         let stress = calendar.stress_hours_in(month);
         let Some(test) = &self.test else {
@@ -80,7 +81,7 @@ impl<K: Kind> Report<'_, '_, K> {
     fn credited_in(&self, calendar: &Calendar, month: u32, commitment: u32) -> u64
         requires one_each { length self.now.hours.now ≡ length (stress_hours calendar.now month) }
         requires few { length self.now.hours.now ≤ 878 }
-        ensures { result ≡ credited_energy K.credit commitment (failed_in self.now.test) (stress_hours calendar.now month) self.now.hours.now }
+        ensures { result ≡ crediting (report_meaning K.Kind self.now) calendar.now month commitment }
     {
         match &self.test {
             None => self.credited(&NONE_FAILED, commitment),

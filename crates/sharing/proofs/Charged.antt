@@ -1,4 +1,4 @@
--- Rows with charges put in, one after another. Assumes nothing.
+-- Rows with charges put in, one after another.
 use Rattle.std.proofs.Common.{◌≡◌, ℕ, zero, suc, ◌+◌, ◌<◌, ◌≤◌, List, [], ◌∷◌, length, get_or, take, set, sym, refl, ap, ◌∙◌, add-one, arith}
 use Rattle.std.proofs.lemmas.List.{take_all, length-map, get_or-map}
 use Rattle.sharing.specs.declared.rows.Row.{Row}

@@ -1,5 +1,5 @@
 -- Where the cents left over end: a remainder such that each row above it has a cent more, and of the rows at it the
--- first ones. Serves src/cut.rt. Assumes nothing.
+-- first ones. Serves src/cut.rt.
 use Rattle.std.specs.Prelude.{ℕ, ◌<◌, ◌≤◌, cond, ◌&&◌, ◌||◌, ltb, List, count_by, ◌==◌, nat_lt}
 
 -- how many remainders are above t

@@ -1,4 +1,4 @@
--- Counts of remainders above a number and at it, the rows that precede a row, and what a cut gives out. Assumes nothing.
+-- Counts of remainders above a number and at it, the rows that precede a row, and what a cut gives out.
 use Rattle.std.specs.Prelude.{◌≡◌, ℕ, zero, suc, ◌+◌, ◌-◌, ◌<◌, ◌≤◌, min, true, cond, List, [], ◌∷◌, length, take, sum_by, count_by, ◌==◌, nat_eq, nat_lt, slice_index, slice_index_or, refl}
 use Rattle.std.proofs.Common.{ap, ⊎_elim, add-one, arith}
 use Rattle.std.specs.List.{range_with_len}

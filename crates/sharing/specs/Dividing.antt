@@ -1,4 +1,4 @@
--- Each share divided by the whole: the whole cents, the remainders, and the cents left over. Assumes nothing.
+-- Each share divided by the whole: the whole cents, the remainders, and the cents left over.
 use Rattle.std.specs.Prelude.{◌≡◌, ℕ, ◌+◌, ◌*◌, ◌%◌, ◌<◌, ◌≤◌, cond, List, [], ◌∷◌, length, sum, nat_lt, slice_index, refl}
 use Rattle.std.proofs.Common.{ap, ◌∙◌, ⊎_elim, add-mul, mul-add, zero-mul, one-mul, mul-zero, div-add-mod', div-le_self, mod-lt, le_of_mul-le-mul_right, arith}
 use Rattle.std.proofs.Math.Nat.{zero-mod}

@@ -1,4 +1,4 @@
--- What a refusal of a sharing rule says, and how it is printed. Serves src/fault.rt. Assumes nothing.
+-- What a refusal of a sharing rule says, and how it is printed. Serves src/fault.rt.
 use Rattle.std.specs.Prelude.{ℕ, List, ◌++◌, codes}
 use Rattle.std.specs.Fmt.{decimal}
 use Rattle.sharing.specs.declared.fault.SharingFault.{SharingFault}

@@ -1,10 +1,10 @@
 -- The rule of the largest remainder: a row's weight is its MWh, each row has the whole cents of its share, and the cents
 -- left over go one each to the rows with the largest remainders, among equals to the earlier row. So 100 over three rows
 -- of 1 MWh is 34, 33, 33: the remainders are equal, and the one cent left over goes to the first row. Serves
--- src/remainder.rt. Assumes nothing.
+-- src/remainder.rt.
 use Rattle.std.specs.Prelude.{◌≡◌, ℕ, ◌+◌, ◌-◌, ◌*◌, ◌%◌, ◌<◌, ◌≤◌, Bool, true, cond, ◌&&◌, ◌||◌, List, map, length, sum_by, sum, count_by, ◌==◌, nat_lt, slice_index}
 use Rattle.std.specs.List.{range_with_len}
-use Rattle.sharing.specs.declared.remainder.Remainder.{Remainder}
+use Rattle.sharing.specs.Rule.{RuleMeaning}
 use Rattle.sharing.specs.Split.{cents_of}
 
 -- the whole cents of each row's share
@@ -43,13 +43,10 @@ with_more cs rs left = map (λ i. slice_index cs i + one_more rs left i) (range_
 abbrev pub by_remainder : ℕ → ℕ → List ℕ → List ℕ
 by_remainder c w ms = with_more (whole_cents c w ms) (remainders c w ms) (left_over c w ms)
 
--- the weights of the rule are the MWh
-abbrev pub remainder_weights : Remainder → ℕ → List ℕ → List ℕ
-remainder_weights rule total ms = ms
-
--- the charges of the rule, where the rows weigh what their MWh add up to
-abbrev pub remainder_charges : Remainder → ℕ → List ℕ → List ℕ
-remainder_charges rule total ms = by_remainder total (sum ms) ms
+-- the rule: a row's weight is its MWh, and the charges are those by remainder, where the rows weigh what their MWh add up
+-- to
+abbrev pub remainder_meaning : RuleMeaning
+remainder_meaning = record { weights = λ total ms. ms; charges = λ total ms. by_remainder total (sum ms) ms }
 
 -- the cents that the charges cs have for row i past the whole cents of its share
 abbrev pub extra : ℕ → List ℕ → List ℕ → ℕ → ℕ

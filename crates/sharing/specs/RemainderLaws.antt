@@ -1,4 +1,4 @@
--- The rule of the largest remainder is lawful and fair. Assumes nothing.
+-- The rule of the largest remainder is lawful and fair.
 use Rattle.std.specs.Prelude.{◌≡◌, ℕ, zero, suc, ◌+◌, ◌*◌, ◌/◌, ◌<◌, ◌≤◌, List, length, take, sum_by, sum, slice_index, slice_index_or, refl}
 use Rattle.std.proofs.Common.{sym, ap, ◌∙◌, ⊎_elim, add-mul, zero-add, zero-mul, one-mul, div-add-mod', mod-lt, add-one, arith}
 use Rattle.std.proofs.Math.Nat.{zero-div}
@@ -8,9 +8,9 @@ use Rattle.std.proofs.lemmas.List.FromFn.{length-map-range_with_len, get_or-map-
 use Rattle.std.proofs.lemmas.List.Sums.{sum_by_more, sum-map}
 use Rattle.std.proofs.lemmas.Bool.{cases_lt}
 use Rattle.std.proofs.lemmas.Bool.Decides.{nat_tests}
-use Rattle.sharing.specs.Rule.{Near, Lawful, Shareable}
+use Rattle.sharing.specs.Rule.{Near, IsLawful}
 use Rattle.sharing.specs.Split.{cents_of}
-use Rattle.sharing.specs.Remainder.{whole_cents, remainder_of, remainders, left_over, ahead, one_more, with_more, by_remainder, extra, Fair}
+use Rattle.sharing.specs.Remainder.{whole_cents, remainder_of, remainders, left_over, ahead, one_more, with_more, by_remainder, remainder_meaning, extra, Fair}
 use Rattle.sharing.specs.Cut.{count_above}
 use Rattle.sharing.specs.Steps.{sum_by-counting_more, sum_by-counting_same}
 use Rattle.sharing.specs.Dividing.{length-whole_cents, length-remainders, whole_cents_at, remainder_at, none_above, whole_cents_within, left_few}
@@ -120,7 +120,7 @@ module _ (c : ℕ) (ms : List ℕ) (some : sum ms ≡ 0 → c ≡ 0) where
         fewer_precedes rests i j (omega arith) (omega arith) fewer;
   }
 
-pub remainder_lawful : (total : ℕ) (ms : List ℕ) → Shareable total ms → Lawful total ms ms (by_remainder total (sum ms) ms)
+pub remainder_lawful : IsLawful remainder_meaning
 remainder_lawful total ms ok = record {
   weight_each = refl;
   charge_each = length-by_remainder total (sum ms) ms;

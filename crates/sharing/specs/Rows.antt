@@ -1,4 +1,4 @@
--- What a list of rows holds, and the rows with charges put in. Serves src/rows.rt. Assumes nothing.
+-- What a list of rows holds, and the rows with charges put in. Serves src/rows.rt.
 use Rattle.std.specs.Prelude.{ℕ, List, [], ◌∷◌, map}
 use Rattle.sharing.specs.declared.rows.Row.{Row}
 

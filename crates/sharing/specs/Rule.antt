@@ -1,10 +1,15 @@
--- What every sharing rule keeps, and what it does to the rows. Serves src/rule.rt.
+-- What a sharing rule means, what every rule keeps, and what it does to the rows. Serves src/rule.rt.
 use Rattle.std.specs.Prelude.{◌≡◌, ℕ, ◌+◌, ◌*◌, ◌<◌, ◌≤◌, List, length, Ok, Err, sum, Result, slice_index}
 use Rattle.sharing.specs.declared.rule.TheConstants.{MOST_ROWS}
 use Rattle.sharing.specs.declared.rows.Row.{Row}
 use Rattle.sharing.specs.declared.fault.SharingFault.{SharingFault}
 use Rattle.sharing.specs.declared.fault.SharingFault.TheVariants.{NoWeight}
-use Rattle.sharing.specs.Rows.{charged}
+use Rattle.sharing.specs.Rows.{mwhs, charged}
+
+-- what a rule means: for a total and the MWh of the rows, a weight and a charge for each row
+pub record RuleMeaning : Type 0 where
+  pub weights : ℕ → List ℕ → List ℕ
+  pub charges : ℕ → List ℕ → List ℕ
 
 -- the most cents that a rule is asked to share, which no month passes
 abbrev pub most_cents : ℕ
@@ -31,8 +36,14 @@ pub record Lawful (total : ℕ) (ms ws cs : List ℕ) : Type 0 where
   pub near : 0 < sum ws → (i : ℕ) → i < length ms → Near total (sum ws) (slice_index ws i) (slice_index cs i)
   pub nothing : sum ws ≡ 0 → total ≡ 0 → (i : ℕ) → i < length ms → slice_index cs i ≡ 0
 
+-- what every rule keeps
+abbrev pub IsLawful : RuleMeaning → Type 0
+IsLawful rule = (total : ℕ) (ms : List ℕ) → Shareable total ms → Lawful total ms (rule.weights total ms) (rule.charges total ms)
+
 -- What a rule answers and leaves. With a total and no weight it refuses, and the rows stay; else it puts the charges in
 -- and changes nothing else.
-abbrev pub Shares : ℕ → List ℕ → List ℕ → List Row → Result (Unit {0}) SharingFault → List Row → Type 0
-Shares total ws cs before (Ok _) after = (sum ws ≡ 0 → total ≡ 0) × (after ≡ charged before cs)
-Shares total ws cs before (Err fault) after = (sum ws ≡ 0) × (0 < total) × (fault ≡ NoWeight) × (after ≡ before)
+abbrev pub Shares : RuleMeaning → ℕ → List Row → Result (Unit {0}) SharingFault → List Row → Type 0
+Shares rule total before (Ok _) after =
+    (sum (rule.weights total (mwhs before)) ≡ 0 → total ≡ 0) × (after ≡ charged before (rule.charges total (mwhs before)))
+Shares rule total before (Err fault) after =
+    (sum (rule.weights total (mwhs before)) ≡ 0) × (0 < total) × (fault ≡ NoWeight) × (after ≡ before)

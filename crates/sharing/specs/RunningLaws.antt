@@ -1,10 +1,10 @@
--- The running rule is lawful. Assumes nothing.
-use Rattle.std.specs.Prelude.{ℕ, List, sum, refl}
-use Rattle.sharing.specs.Rule.{Lawful, Shareable}
-use Rattle.sharing.specs.Split.{split}
+-- The running rule is lawful.
+use Rattle.std.specs.Prelude.{sum, refl}
+use Rattle.sharing.specs.Rule.{IsLawful}
+use Rattle.sharing.specs.Running.{running_meaning}
 use Rattle.sharing.specs.SplitLaws.{length-split, split_whole, split_near, split_nothing}
 
-pub running_lawful : (total : ℕ) (ms : List ℕ) → Shareable total ms → Lawful total ms ms (split total (sum ms) ms)
+pub running_lawful : IsLawful running_meaning
 running_lawful total ms ok = record {
   weight_each = refl;
   charge_each = length-split total (sum ms) ms;

@@ -1,4 +1,4 @@
--- Sums of what rises step by step. Assumes nothing.
+-- Sums of what rises step by step.
 use Rattle.std.specs.Prelude.{◌≡◌, ℕ, zero, suc, ◌+◌, ◌-◌, ◌<◌, ◌≤◌, sum_by, refl}
 use Rattle.std.proofs.Common.{add-one, arith}
 use Rattle.std.specs.List.{range_with_len}

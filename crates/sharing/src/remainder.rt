@@ -4,7 +4,7 @@ ghost use Rattle.std.specs.Prelude.{◌≡◌, ◌+◌, ◌-◌, ◌*◌, ◌^�
 ghost use Rattle.sharing.specs.Rows.{mwhs, charges_in, with_charge, charged};
 ghost use Rattle.sharing.specs.Rule.{Shareable, Shares};
 ghost use Rattle.sharing.specs.Split.{cents_of};
-ghost use Rattle.sharing.specs.Remainder.{whole_cents, remainder_of, remainders, left_over, with_more, remainder_weights, remainder_charges, Fair};
+ghost use Rattle.sharing.specs.Remainder.{whole_cents, remainder_of, remainders, left_over, with_more, remainder_meaning, Fair};
 ghost use Rattle.sharing.specs.Cut.{count_above};
 ghost use Rattle.sharing.specs.RemainderLaws.{remainder_lawful};
 
@@ -19,19 +19,14 @@ use arrayvec::ArrayVec;
 pub struct Remainder;
 
 impl SharingRule for Remainder {
-    ghost weights = { remainder_weights };
-
-    ghost charges = { remainder_charges };
+    ghost meaning = { λ rule. remainder_meaning };
 
     ghost lawful = { λ rule. remainder_lawful };
 
     /// Puts each row's charge in place, or refuses and leaves the rows as they are. What it charges is fair.
     fn share(&self, total: u64, rows: &mut [Row]) -> Result<(), SharingFault>
         requires { Shareable total (mwhs rows.old) }
-        ensures shares { Shares total
-            (remainder_weights self.now total (mwhs rows.old))
-            (remainder_charges self.now total (mwhs rows.old))
-            rows.old result rows.new }
+        ensures shares { Shares remainder_meaning total rows.old result rows.new }
         ensures fair { is_ok result ≡ true → Fair total (mwhs rows.old) (charges_in rows.new) }
     {
         let weighed = Weighed::over(total, rows)?;

@@ -2,7 +2,7 @@
 ghost use Rattle.std.specs.Prelude.{◌≡◌, ◌+◌, ◌-◌, ◌≤◌};
 ghost use Rattle.sharing.specs.Rows.{with_charge};
 ghost use Rattle.sharing.specs.Split.{cents_of};
-ghost use Rattle.sharing.specs.Running.{running_weights, running_charges};
+ghost use Rattle.sharing.specs.Running.{running_meaning};
 ghost use Rattle.sharing.specs.RunningLaws.{running_lawful};
 
 use crate::weighed::Weighed;
@@ -13,9 +13,7 @@ use crate::{Row, RunningSplit, SharingFault, SharingRule};
 pub struct Running;
 
 impl SharingRule for Running {
-    ghost weights = { running_weights };
-
-    ghost charges = { running_charges };
+    ghost meaning = { λ rule. running_meaning };
 
     ghost lawful = { λ rule. running_lawful };
 

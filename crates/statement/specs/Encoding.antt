@@ -1,4 +1,4 @@
--- The bytes of a statement. Serves the whole crate. Assumes nothing.
+-- The bytes of a statement. Serves the whole crate.
 use Rattle.std.specs.Prelude.{ℕ, ◌≡◌, ◌+◌, ◌*◌, true, List, ◌∷◌, ◌++◌, length}
 use Rattle.std.specs.List.{flat_map}
 use Rattle.std.specs.Int.{w64, to_le_bytes}

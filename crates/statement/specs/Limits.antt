@@ -1,4 +1,4 @@
--- The limits of a statement. Serves src/form.rt. Assumes nothing.
+-- The limits of a statement. Serves src/form.rt.
 use Rattle.std.specs.Prelude.{ℕ, Bool, ◌&&◌, List, length, nat_le}
 use Rattle.std.specs.List.{list_all}
 use Rattle.ledger.specs.declared.state.Line.{Line}

@@ -1,4 +1,4 @@
--- The lines that a statement's amounts stand for. Serves src/parts.rt. Assumes nothing.
+-- The lines that a statement's amounts stand for. Serves src/parts.rt.
 use Rattle.std.specs.Prelude.{ℕ, ◌<◌, ◌^◌, List, map}
 use Rattle.std.specs.List.{zip}
 use Rattle.std.specs.Int.{w64, from_le_bytes}

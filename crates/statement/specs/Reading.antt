@@ -1,4 +1,4 @@
--- Reading a statement: what each answer says of the bytes and of the lines. Serves src/reading.rt. Assumes nothing.
+-- Reading a statement: what each answer says of the bytes and of the lines. Serves src/reading.rt.
 use Rattle.std.specs.Prelude.{ℕ, ◌≡◌, ◌≢◌, ◌<◌, ◌≤◌, Bool, true, false, ◌&&◌, List, [], ◌∷◌, ◌++◌, length, drop, ◌==◌, nat_le, nat_lt, slice_index, Result, Ok, Err}
 use Rattle.ledger.specs.declared.state.Line.{Line}
 use Rattle.ledger.specs.Judged.{judged, kept_or}

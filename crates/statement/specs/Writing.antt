@@ -1,4 +1,4 @@
--- Writing a statement: its refusals, and what the buffer holds afterwards. Serves src/writing.rt. Assumes nothing.
+-- Writing a statement: its refusals, and what the buffer holds afterwards. Serves src/writing.rt.
 use Rattle.std.specs.Prelude.{ℕ, Bool, not, List, [], ◌∷◌, ◌++◌, length, drop, nat_lt}
 use Rattle.ledger.specs.declared.state.Line.{Line}
 use Rattle.statement.specs.declared.fault.StatementFault.{StatementFault}

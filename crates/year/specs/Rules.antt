@@ -1,4 +1,4 @@
--- The names of the built-in rules. Serves src/closing.rt. Assumes nothing.
+-- The names of the built-in rules. Serves src/closing.rt.
 use Rattle.std.specs.Prelude.{ℕ, List, codes}
 use Rattle.year.specs.declared.closing.Rule.{Rule}
 use Rattle.year.specs.declared.closing.Rule.TheVariants as rule

@@ -1,4 +1,4 @@
--- The charges of three rows, each of them the same. Assumes nothing.
+-- The charges of three rows, each of them the same.
 use Rattle.std.proofs.Common.{rules, tests, arith, ◌≡◌, ◌==◌, true, ℕ, List, [], ◌∷◌, length, replicate, ap, sym, ◌∙◌}
 use Rattle.std.specs.List.{list_all}
 use Rattle.std.proofs.lemmas.Bool.{and_parts, eqb-true}

@@ -1,4 +1,4 @@
--- The records are those of the first hours, and then those of the hours after them. Assumes nothing.
+-- The records are those of the first hours, and then those of the hours after them.
 use Rattle.std.proofs.Common.{◌≡◌, ℕ, ◌-◌, ◌≤◌, min, List, [], ◌++◌, length, take, replicate, vec_items, vec_len, ap, ◌∙◌, arith}
 use Rattle.std.proofs.lemmas.List.{take_all, length-replicate}
 use Rattle.year.proofs.records.records.Goals as goal

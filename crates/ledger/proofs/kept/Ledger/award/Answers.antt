@@ -4,7 +4,7 @@ use Rattle.ledger.specs.declared.state.Award.{Award}
 use Rattle.ledger.specs.declared.state.Book.{Book}
 use Rattle.ledger.specs.Form.{Trade}
 use Rattle.ledger.specs.Changes.{with_trade}
-use Rattle.ledger.specs.Awarding.{award_rows, new_award, awarded}
+use Rattle.ledger.specs.Awarding.{award_rows, new_award, awarded, Awards}
 use Rattle.ledger.specs.Runs.{noted}
 use Rattle.ledger.proofs.JudgedRows.{refused_exit, accepted_value}
 use Rattle.ledger.proofs.Keeping.{Kept}
@@ -17,8 +17,8 @@ returns-in_err-holder c =
     let b = c.args.self.now.book in
     let f = c.args.facility in
     let exit = refused_exit (award_rows b f c.args.kw c.args.price) f (Ok (length b.trade.items + 1)) c.in_err-holder.field-0.0 c.from_residual.result c.in_err-holder.ensures c.from_residual.ensures.1 in
-    let after = exit.1 (awarded b f c.args.kw c.args.price) b in
-    record { answer = exit.0; after = after; full = (λ is. grind (arith, nat_tests), λ both. grind (arith, nat_tests)); recorded = λ j h. noted j _ c.args.self.now _ h (exit.0, after) }
+    let awards : Awards b f c.args.kw c.args.price c.from_residual.result b = record { answer = exit.0; after = exit.1 (awarded b f c.args.kw c.args.price) b } in
+    record { awards = awards; full = (λ is. grind (arith, nat_tests), λ both. grind (arith, nat_tests)); recorded = λ j h. noted j _ c.args.self.now _ h awards }
 
 -- the book with a new award pushed, all of whose kW facility n holds, is the awarded one
 is_awarded : (b : Book) (f kw price n : ℕ) (new : Award) (trade : Trade) → trade.items ≡ b.trade.items ++ new ∷ [] → n ≡ f → new ≡ new_award n kw price → with_trade b trade ≡ awarded b f kw price
@@ -26,12 +26,15 @@ is_awarded b f kw price n new trade pushed own is =
     let all = pushed ∙ ap (λ x. b.trade.items ++ x ∷ []) (is ∙ ap (λ k. new_award k kw price) own) in
     λ i. with_trade b (record { items = all i })
 
-pub returns-clause-recorded : goal.returns-clause-recorded
-returns-clause-recorded c =
+pub returns-clause-awards : goal.returns-clause-awards
+returns-clause-awards c =
     let b = c.args.self.now.book in
     let f = c.args.facility in
     let own = accepted_value (award_rows b f c.args.kw c.args.price) f c.in_ok-holder.holder.number c.in_ok-holder.ensures in
-    λ j h. noted j _ c.args.self.now _ h (search rules, is_awarded b f c.args.kw c.args.price _ c.new_award.result c.push.new.self c.push.ensures.items own c.new_award.ensures)
+    record { answer = search rules; after = is_awarded b f c.args.kw c.args.price _ c.new_award.result c.push.new.self c.push.ensures.items own c.new_award.ensures }
+
+pub returns-clause-recorded : goal.returns-clause-recorded
+returns-clause-recorded c = λ j h. noted j _ c.args.self.now _ h (returns-clause-awards c)
 
 pub invariant_of-self : goal.invariant_of-self
 invariant_of-self c =

@@ -7,7 +7,7 @@ use Rattle.ledger.specs.declared.refusal.Refusal.{Refusal}
 use Rattle.ledger.specs.Judged.{judged}
 use Rattle.ledger.specs.Form.{no_award, held_under}
 use Rattle.ledger.specs.Changes.{with_trade}
-use Rattle.ledger.specs.Ceding.{cede_rows, shifted, with_held, ceded}
+use Rattle.ledger.specs.Ceding.{cede_rows, shifted, with_held, ceded, Cedes}
 use Rattle.ledger.specs.Runs.{noted}
 use Rattle.ledger.proofs.Keeping.{Kept}
 use Rattle.ledger.proofs.JudgedRows.{refused_exit, accepted_as, accepted_value}
@@ -21,8 +21,8 @@ returns-in_err-award c =
     let b = c.args.self.now.book in
     let given : ℕ × ℕ × ℕ = (c.args.award, c.args.giver, c.args.taker) in
     let exit = refused_exit (cede_rows b c.args.award c.args.giver c.args.taker c.args.kw) given (Ok tt) c.in_err-award.field-0.0 c.from_residual.result c.in_err-award.ensures c.from_residual.ensures.1 in
-    let after = exit.1 (ceded b c.args.award c.args.giver c.args.taker c.args.kw) b in
-    record { answer = exit.0; after = after; recorded = λ j h. noted j _ c.args.self.now _ h (exit.0, after) }
+    let cedes : Cedes b c.args.award c.args.giver c.args.taker c.args.kw c.from_residual.result b = record { answer = exit.0; after = exit.1 (ceded b c.args.award c.args.giver c.args.taker c.args.kw) b } in
+    record { cedes = cedes; recorded = λ j h. noted j _ c.args.self.now _ h cedes }
 
 -- the book with an award of which kW were moved from facility g to facility t is the ceded one
 is_ceded : (b : Book) (award giver taker kw place g t : ℕ) (awards : List Award) (new : Award) → awards ≡ b.trade.items → place ≡ award - 1 → g ≡ giver → t ≡ taker → new ≡ with_held (get_or awards place no_award) (shifted (get_or awards place no_award).held (g - 1) (t - 1) kw) → with_trade b (with_items b.trade (set awards place new)) ≡ ceded b award giver taker kw
@@ -55,7 +55,7 @@ returns c =
     let a = c.args.award in
     let own = found_cedable b a c.args.giver c.args.taker c.args.kw _ _ _ c.in_ok-award.ensures in
     let after = is_ceded b a c.args.giver c.args.taker c.args.kw c.place.result _ _ c.deref_mut.result.now c.shift.new.award c.deref_mut.ensures.value (c.place.ensures.value ∙ ap (λ n. n - 1) own.1) own.2 own.3 c.shift.ensures in
-    record { answer = search rules; after = after; recorded = λ j h. noted j _ c.args.self.now _ h (search rules, after) }
+    record { cedes = record { answer = search rules; after = after }; recorded = λ j h. noted j _ c.args.self.now _ h (record { answer = search rules; after = after }) }
 
 pub invariant_of-self : goal.invariant_of-self
 invariant_of-self c =

@@ -9,7 +9,7 @@ use Rattle.ledger.proofs.After.{closed_kept}
 use Rattle.ledger.proofs.kept.Ledger.close.Goals as goal
 
 pub returns-in_err-stage-clause-recorded : goal.returns-in_err-stage-clause-recorded
-returns-in_err-stage-clause-recorded g c = λ j h. noted j _ c.args.self.now _ h (g.met.R.SharingRule.lawful c.args.rule.now, search rules, search rules, search rules)
+returns-in_err-stage-clause-recorded g c = λ j h. noted j _ c.args.self.now _ h (g.met.R.SharingRule.lawful c.args.rule.now, search rules)
 
 pub returns-in_err-total-clause-recorded : goal.returns-in_err-total-clause-recorded
 returns-in_err-total-clause-recorded g c = search (rules, noted, g.met.R.SharingRule.lawful)
