@@ -32,7 +32,8 @@ with_held a held = record a { held = held }
 abbrev pub ceded : Book → ℕ → ℕ → ℕ → ℕ → Book
 ceded b a giver taker kw =
     let old = award_at b.trade (a - 1) in
-    with_trade b (record { items = slice_set b.trade.items (a - 1) (with_held old (shifted old.held (giver - 1) (taker - 1) kw)) })
+    let new = with_held old (shifted old.held (giver - 1) (taker - 1) kw) in
+    with_trade b (record { items = slice_set b.trade.items (a - 1) new })
 
 -- a cession on the book b answers r and leaves the book b'
 abbrev pub Cedes : Book → ℕ → ℕ → ℕ → ℕ → Answer (Unit {0}) → Book → Type 0

@@ -37,11 +37,13 @@ firm_power modules count access = min access (sum_by watts (take count modules) 
 abbrev pub register_rows : Book → ℕ → List Module → ℕ → ℕ → Rows
 register_rows b letter modules count access =
     course call.Register b.stage
-    ++ (nat_le 64 (length b.register.items), refusal.NoRoom) ∷ (not (right_figures letter modules count access), refusal.OutOfLimits) ∷ []
+    ++ (nat_le 64 (length b.register.items), refusal.NoRoom)
+    ∷ (not (right_figures letter modules count access), refusal.OutOfLimits) ∷ []
 
 -- one facility more, switched off
 abbrev pub registered : Book → ℕ → ℕ → Book
-registered b letter firm = with_register b (record { items = b.register.items ++ (record { letter = letter; firm = firm; on = false }) ∷ [] })
+registered b letter firm =
+    with_register b (record { items = b.register.items ++ (record { letter = letter; firm = firm; on = false }) ∷ [] })
 
 -- a registering on the book b answers r, the facility's number where it is accepted, and leaves the book b'
 abbrev pub Registers : Book → ℕ → List Module → ℕ → ℕ → Answer ℕ → Book → Type 0

@@ -19,7 +19,8 @@ use Rattle.ledger.specs.Changes.{with_month}
 -- the facility f was given out, and has this letter
 abbrev pub own_letter : Register → ℕ → ℕ → Rows
 own_letter r f letter =
-    (not (given_out f (length r.items)), refusal.NoFacility) ∷ (not (letter == (facility_at r (f - 1)).letter), refusal.OtherLetter) ∷ []
+    (not (given_out f (length r.items)), refusal.NoFacility)
+    ∷ (not (letter == (facility_at r (f - 1)).letter), refusal.OtherLetter) ∷ []
 
 -- the refusals of a call that brings a report, up to the report itself: its letter is the facility's
 abbrev pub letter_rows : Call → Book → ℕ → ℕ → Rows

@@ -30,7 +30,8 @@ impl Ledger {
         taker: u32,
         kw: u32,
     ) -> Result<(AwardNumber, FacilityNumber, FacilityNumber), Refusal>
-        ensures { plainly {B = ℕ × ℕ × ℕ} (λ n. (n.0.number, n.1.number, n.2.number)) result ≡ judged (cede_rows self.now.book award giver taker kw) (award, giver, taker) }
+        ensures { plainly {B = ℕ × ℕ × ℕ} (λ n. (n.0.number, n.1.number, n.2.number)) result
+            ≡ judged (cede_rows self.now.book award giver taker kw) (award, giver, taker) }
     {
         turn(self.book.stage, Call::Cede)?;
         let giver = self.find_facility(giver)?;

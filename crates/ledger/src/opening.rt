@@ -18,7 +18,8 @@ impl Ledger {
         lengths: &[u16],
     ) -> Result<(), LedgerFault>
         ensures opens { Opens self.old.book year_hours firsts.now lengths.now result self.new.book }
-        ensures recorded { (j : Journal) → Recorded j self.old → Recorded (opening year_hours firsts.now lengths.now result ∷ j) self.new }
+        ensures recorded { (j : Journal) → Recorded j self.old →
+            Recorded (opening year_hours firsts.now lengths.now result ∷ j) self.new }
     {
         let stage = turn(self.book.stage, Call::Open)?;
         self.book.calendar.fill(year_hours, firsts, lengths)?;

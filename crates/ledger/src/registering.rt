@@ -54,7 +54,8 @@ impl Ledger {
             ↔ (IsTrue (belongs Call.Register self.old.book.stage)
             × (length self.old.book.register.items ≡ MOST_FACILITIES)) }
         ensures count { IsTrue (right_count count) ↔ ((1 ≤ count) × (count ≤ MOST_MODULES)) }
-        ensures recorded { (j : Journal) → Recorded j self.old → Recorded (registering letter modules count access result ∷ j) self.new }
+        ensures recorded { (j : Journal) → Recorded j self.old →
+            Recorded (registering letter modules count access result ∷ j) self.new }
     {
         let figures = Figures {
             letter,
@@ -74,7 +75,9 @@ impl Ledger {
 
     /// The number that the facility gets, or why it is not registered.
     fn may_register(&self, figures: &Figures) -> Result<u32, Refusal>
-        ensures { result ≡ judged (register_rows self.now.book figures.now.letter figures.now.modules figures.now.count figures.now.access) (length self.now.book.register.items + 1) }
+        ensures { result ≡ judged
+            (register_rows self.now.book figures.now.letter figures.now.modules figures.now.count figures.now.access)
+            (length self.now.book.register.items + 1) }
     {
         turn(self.book.stage, Call::Register)?;
         if self.book.register.is_full() {

@@ -31,7 +31,10 @@ impl Energy {
 impl Test<'_> {
     /// Refuses a test that is not in order for the kind, in a month of these hours.
     pub(crate) fn check<K: Kind>(&self, month: Range<u32>) -> Result<(), MeteringFault>
-        ensures { result ≡ (if in_order K.SHORTEST K.LONGEST month.start month.end self.now.first self.now.hours.now then Ok tt else Err (fault.Test (wrong_place self.now.hours.now))) }
+        ensures { result
+            ≡ (if in_order K.SHORTEST K.LONGEST month.start month.end self.now.first self.now.hours.now
+            then Ok tt
+            else Err (fault.Test (wrong_place self.now.hours.now))) }
     {
         let place = self.wrong_place();
         if place.is_none() && self.lasts::<K>() && self.lies_in(month) {

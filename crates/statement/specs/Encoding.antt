@@ -23,4 +23,5 @@ length_of n = 2 + 16 * n
 
 -- two statements that have the same bytes are the same
 abbrev pub Distinct : Type 0
-Distinct = (m n : ℕ) (ls hs : List Line) → within m ls ≡ true → within n hs ≡ true → encoding m ls ≡ encoding n hs → (m ≡ n) × (ls ≡ hs)
+Distinct =
+    (m n : ℕ) (ls hs : List Line) → within m ls ≡ true → within n hs ≡ true → encoding m ls ≡ encoding n hs → (m ≡ n) × (ls ≡ hs)

@@ -34,7 +34,8 @@ Refused bytes room Buffer = (m : ℕ) × (ls : List Line) × States bytes m ls �
 
 -- what an answer says of the bytes, and of the lines before and after the call
 abbrev pub Answers : List ℕ → List Line → Result (ℕ × ℕ) StatementFault → List Line → Type 0
-Answers bytes old (Ok (m, n)) new = (ls : List Line) × States bytes m ls × (length ls ≡ n) × (n ≤ length old) × (new ≡ filled ls old)
+Answers bytes old (Ok (m, n)) new =
+    (ls : List Line) × States bytes m ls × (length ls ≡ n) × (n ≤ length old) × (new ≡ filled ls old)
 Answers bytes old (Err e) new = Refused bytes (length old) e × (new ≡ old)
 
 -- whatever lines the bytes are read into, they are read as the statement of m and ls

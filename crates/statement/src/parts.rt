@@ -22,7 +22,9 @@ impl<'a> Parts<'a> {
     /// Takes bytes apart that are as many as their count asks for.
     pub fn of(bytes: &'a [u8]) -> Option<Self>
         ensures { MatchOption result (in_form bytes.now ≡ false) (λ p.
-            (in_form bytes.now ≡ true) × (bytes.now ≡ encoding p.month (lines_of p.rights.now p.penalties.now)) × All Fits (lines_of p.rights.now p.penalties.now)) }
+            (in_form bytes.now ≡ true)
+            × (bytes.now ≡ encoding p.month (lines_of p.rights.now p.penalties.now))
+            × All Fits (lines_of p.rights.now p.penalties.now)) }
     {
         let [month, count, amounts @ ..] = bytes else {
             return None;

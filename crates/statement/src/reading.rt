@@ -22,7 +22,8 @@ pub fn read(bytes: &[u8], lines: &mut [Line]) -> Result<(u32, usize), StatementF
 /// The statement that the bytes are, taken apart, where there is room for so many lines.
 fn statement_in(bytes: &[u8], room: usize) -> Result<Parts<'_>, StatementFault>
     ensures { MatchResult result
-        (λ p. States bytes.now p.month (lines_of p.rights.now p.penalties.now) × (length (lines_of p.rights.now p.penalties.now) ≤ room))
+        (λ p. States bytes.now p.month (lines_of p.rights.now p.penalties.now)
+        × (length (lines_of p.rights.now p.penalties.now) ≤ room))
         (Refused bytes.now room) }
 {
     let parts = Parts::of(bytes).ok_or(StatementFault::Length)?;

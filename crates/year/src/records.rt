@@ -20,7 +20,8 @@ pub struct Month {
 impl Month {
     /// A facility's records of the month. As many are of its first hours as the month has for a number.
     pub fn records<H: Copy>(self, heap: Global, hours: Hours<H>) -> Result<Vec<H>, AllocError>
-        ensures { IfOk result (λ v. v.items ≡ replicate (min self.number self.stress) hours.first ++ replicate (self.stress - self.number) hours.after) }
+        ensures { IfOk result (λ v. v.items
+            ≡ replicate (min self.number self.stress) hours.first ++ replicate (self.stress - self.number) hours.after) }
     {
         records(heap, hours, self.number as usize, self.stress)
     }
