@@ -1,5 +1,5 @@
 //! Where the cents left over end, when they go to the largest remainders first.
-ghost use Rattle.std.specs.Prelude.{◌≡◌, ◌-◌, if◌then◌else◌, nat_eq, nat_le};
+ghost use Rattle.std.specs.Prelude.{◌≡◌, ◌≤◌, ◌-◌, if◌then◌else◌, nat_eq, nat_le, length};
 ghost use Rattle.sharing.specs.Cut.{count_above, Least, cent_at};
 
 /// The cents left over, and the remainders of all rows, the largest of which they go to; none is above `most`.
@@ -9,6 +9,7 @@ pub(crate) struct LeftOver<'a> {
     pub(crate) rems: &'a [u32],
     pub(crate) most: u32,
     ghost top: { count_above rems.now most ≡ 0 },
+    ghost few: { length rems.now ≤ 1_024 },
 }
 
 impl LeftOver<'_> {
@@ -40,7 +41,9 @@ impl LeftOver<'_> {
     fn count_above(&self, at: u32) -> u64
         ensures { result ≡ count_above self.now.rems.now at }
     {
-        self.rems.iter().filter(|rem| **rem > at).count() as u64
+        // The sum has no branch, and as many bits as a remainder, so that several are counted at once.
+        let above: u32 = self.rems.iter().map(|rem| u32::from(*rem > at)).sum();
+        u64::from(above)
     }
 }
 

@@ -3,7 +3,7 @@ use Rattle.sharing.specs.declared.rows.Row.{Row}
 use Rattle.sharing.specs.Rows.{mwhs, charges_in, charged}
 use Rattle.sharing.specs.Remainder.{whole_cents, remainders, left_over, with_more, by_remainder, Fair}
 use Rattle.sharing.proofs.Charged.{charged_again, charges_in_charged, length-mwhs}
-use Rattle.sharing.specs.Dividing.{length-whole_cents, whole_cents_small, none_above}
+use Rattle.sharing.specs.Dividing.{length-whole_cents, length-remainders, whole_cents_small, none_above}
 use Rattle.sharing.specs.RemainderLaws.{length-by_remainder, remainder_fair}
 use Rattle.sharing.proofs.remainder.RemainderSharingRule.share.Goals as goal
 
@@ -23,7 +23,7 @@ charged_by_remainder c w rows once twice rests left whole rems over more =
 pub invariant_of-hand_out : goal.invariant_of-hand_out
 invariant_of-hand_out c =
     let weighed = c.in_ok-weighed.weighed in
-    record { top = rw (c.as_slice-rems.ensures.value, c.divide_all-cents.ensures.rests) (none_above weighed.total weighed.whole (mwhs c.args.rows.now) weighed.some) }
+    record { top = rw (c.as_slice-rems.ensures.value, c.divide_all-cents.ensures.rests) (none_above weighed.total weighed.whole (mwhs c.args.rows.now) weighed.some); few = rw (c.as_slice-rems.ensures.value, c.divide_all-cents.ensures.rests) (omega (arith, length-remainders weighed.total weighed.whole (mwhs c.args.rows.now), c.requires.rows)) }
 
 pub hand_out-requires-clause-fits : goal.hand_out-requires-clause-fits
 hand_out-requires-clause-fits c =
