@@ -12,7 +12,7 @@ returns-clause-switches c =
     let b = c.args.self.now.book in
     let own = accepted_value (admission call.Switch b c.args.facility) c.args.facility _ c.in_ok-facility.ensures in record {
       answer = search rules;
-      after = ap (with_register b) (item_written b.register _ c.place.result c.set_on.new.facility c.deref_mut.ensures.value) ∙ cc;
+      after = ap (with_register b) (item_written b.register _ _ c.set_on.new.facility c.deref_mut.ensures.value) ∙ cc;
     }
 
 pub returns-clause-recorded : goal.returns-clause-recorded
