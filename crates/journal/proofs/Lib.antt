@@ -4,6 +4,7 @@ pub mod Bounded
 pub mod Trading
 pub mod Registers
 pub mod Tables
+pub mod Formed
 pub mod Alike
 pub mod Months
 pub mod Balance

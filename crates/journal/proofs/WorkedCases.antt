@@ -1,6 +1,10 @@
 -- The law allows none of the wrong cases, and leaves nothing open in the others.
-use Rattle.std.proofs.Common.{◌≡◌, ℕ, ◌≤◌, true, List, [], ◌∷◌, length, refl, sym, ap, ◌∙◌, arith, lit≤, replicate}
+use Rattle.std.proofs.Common.{◌≡◌, ℕ, ◌*◌, ◌≤◌, true, List, [], ◌∷◌, map, length, refl, sym, ap, ◌∙◌, subst, arith, lit≤, replicate}
+use Rattle.std.specs.List.{range_with_len}
+use Rattle.std.proofs.lemmas.Bool.{false≢true}
 use Rattle.calendar.specs.Calendar.{Calendar}
+use Rattle.calendar.specs.Filling.{given_year}
+use Rattle.calendar.specs.Form.{IsInForm}
 use Rattle.calendar.specs.Months.{first_months}
 use Rattle.calendar.specs.Stress.{stress_hours}
 use Rattle.metering.specs.Meaning.{ReportMeaning}
@@ -11,7 +15,7 @@ use Rattle.sharing.specs.Remainder.{remainder_meaning}
 use Rattle.sharing.specs.Rule.{RuleMeaning, Lawful}
 use Rattle.sharing.specs.RemainderLaws.{remainder_lawful}
 use Rattle.ledger.specs.Lines.{booked_line}
-use Rattle.journal.specs.Acts.{switched, awarded, ceded, cut, reported, advanced, closed, acts}
+use Rattle.journal.specs.Acts.{opened, switched, awarded, ceded, cut, reported, advanced, closed, acts}
 use Rattle.journal.specs.Law.{facilities, line, Opened}
 use Rattle.journal.specs.Worked.{buyers, february, advanced_february, journal, Says}
 use Rattle.journal.specs.Cases.{start, won, idle_advance, idle_month, fixed, ChargeCases, NoBook, LawCases}
@@ -39,6 +43,24 @@ charge_cases c opens = record {
 new_year : Says [] (λ b. (b.calendar.year_hours ≡ 8_760) × (length (stress_hours b.calendar 1) ≡ 744))
 unfolding first_months
 new_year b holds = (ap (λ c. c.year_hours) holds.calendar, ap (λ c. length (stress_hours c 1)) holds.calendar)
+
+-- the calendar of an opening is in form
+in_form_of : (year : ℕ) (firsts lengths : List ℕ) → Says (opened year firsts lengths ∷ []) (λ b. IsInForm (given_year year firsts lengths))
+in_form_of year firsts lengths b holds = subst IsInForm holds.calendar holds.formed
+
+no_year : NoBook (opened 9_000 (0 ∷ []) (450 ∷ []) ∷ [])
+no_year b holds = false≢true (in_form_of 9_000 (0 ∷ []) (450 ∷ []) b holds).year
+
+too_many_runs : NoBook (opened 8_760 (map (λ i. 20 * i) (range_with_len 0 367)) (replicate 367 2) ∷ [])
+too_many_runs b holds =
+    let many : 367 ≤ 366 = (in_form_of 8_760 (map (λ i. 20 * i) (range_with_len 0 367)) (replicate 367 2) b holds).few in
+    omega (arith, many)
+
+touching : NoBook (opened 8_760 (0 ∷ 438 ∷ []) (438 ∷ 1 ∷ []) ∷ [])
+touching b holds = false≢true ((in_form_of 8_760 (0 ∷ 438 ∷ []) (438 ∷ 1 ∷ []) b holds).formed 1 (lit≤ tt))
+
+too_few_hours : NoBook (opened 8_760 (0 ∷ []) (437 ∷ []) ∷ [])
+too_few_hours b holds = false≢true (in_form_of 8_760 (0 ∷ []) (437 ∷ []) b holds).share
 
 kw_lost : NoBook (awarded 1 65 1_000 12 ∷ start)
 unfolding facilities
@@ -91,6 +113,10 @@ cases = record {
   metering = λ b holds. metering_at b.stage (cut ∷ start) 0 (lit≤ tt) refl refl refl holds.stage;
   claims = λ b holds. claims_at b.stage (idle_advance ∷ cut ∷ start) 0 (lit≤ tt) refl refl holds.stage;
   not_cut = λ b holds. nowhere b.stage holds.stage;
+  no_year = no_year;
+  too_many_runs = too_many_runs;
+  touching = touching;
+  too_few_hours = too_few_hours;
   cut_twice = cut_twice;
   next_facility = λ n b holds. holds.numbers.0;
   next_award = λ n b holds. holds.numbers.0;

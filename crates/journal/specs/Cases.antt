@@ -1,6 +1,7 @@
 -- Cases of the law: acts and charges that are wrong in one thing, which it does not allow, and acts in which one thing is
 -- not given, of which it says what that is. Serves src/worked.rt.
-use Rattle.std.specs.Prelude.{◌≡◌, ℕ, ◌≤◌, true, List, [], ◌∷◌, length, replicate}
+use Rattle.std.specs.Prelude.{◌≡◌, ℕ, ◌*◌, ◌≤◌, true, List, [], ◌∷◌, map, length, replicate}
+use Rattle.std.specs.List.{range_with_len}
 use Rattle.calendar.specs.Calendar.{Calendar}
 use Rattle.calendar.specs.Stress.{stress_hours}
 use Rattle.metering.specs.Meaning.{ReportMeaning}
@@ -67,6 +68,11 @@ pub record LawCases : Type 0 where
   pub metering : Says (cut ∷ start) (λ b. b.stage ≡ Month 1 Metering)
   pub claims : Says (idle_advance ∷ cut ∷ start) (λ b. b.stage ≡ Month 1 Claims)
   pub not_cut : NoBook (idle_advance ∷ start)
+  -- openings with a year of 9,000 hours, with 367 runs, with runs that touch, and with an hour too few
+  pub no_year : NoBook (opened 9_000 (0 ∷ []) (450 ∷ []) ∷ [])
+  pub too_many_runs : NoBook (opened 8_760 (map (λ i. 20 * i) (range_with_len 0 367)) (replicate 367 2) ∷ [])
+  pub touching : NoBook (opened 8_760 (0 ∷ 438 ∷ []) (438 ∷ 1 ∷ []) ∷ [])
+  pub too_few_hours : NoBook (opened 8_760 (0 ∷ []) (437 ∷ []) ∷ [])
   -- two cut-offs in one month
   pub cut_twice : NoBook (idle_month (switched 1 true ∷ cut ∷ start))
   -- each number is the next
