@@ -16,7 +16,6 @@ pub mod Closing
 pub mod Theorem
 pub mod LawHolds
 pub mod Adding
-pub mod Flattened
 pub mod Totalling
 pub mod WorkedRun
 pub mod WorkedStages
