@@ -1,5 +1,5 @@
 -- Which hours a year may have, and which runs of stress hours; so what every calendar keeps.
-use Rattle.std.specs.Prelude.{◌≡◌, ℕ, ◌-◌, ◌*◌, ◌<◌, ◌≤◌, Bool, true, not, ◌&&◌, ◌||◌, List, length, sum_by, Option, position, ◌==◌, nat_le, nat_lt, slice_index_or}
+use Rattle.std.specs.Prelude.{◌≡◌, ℕ, ◌-◌, ◌*◌, ◌<◌, ◌≤◌, Bool, true, not, ◌&&◌, ◌||◌, List, ◌++◌, length, replicate, sum_by, Option, position, ◌==◌, nat_le, nat_lt, slice_index_or}
 use Rattle.std.specs.List.{range_with_len}
 use Rattle.calendar.specs.declared.run.Run.{Run}
 use Rattle.calendar.specs.Calendar.{Calendar}
@@ -9,9 +9,13 @@ use Rattle.calendar.specs.Runs.{ends}
 abbrev pub is_year : ℕ → Bool
 is_year hours = hours == 8_760 || hours == 8_784
 
+-- a run of no hours
+abbrev pub no_run : Run
+no_run = record { first = 0; len = 0 }
+
 -- the run at k, counted from 0
 abbrev pub run_at : List Run → ℕ → Run
-run_at rs k = slice_index_or rs k (record { first = 0; len = 0 })
+run_at rs k = slice_index_or rs k no_run
 
 -- the run at k, if it is not the first, begins at least one hour after the end of the run before it
 abbrev pub apart : List Run → ℕ → Bool
@@ -39,3 +43,7 @@ pub record IsInForm (c : Calendar) : Type 0 where
   pub few : length c.runs ≤ 366
   pub formed : (k : ℕ) → k < length c.runs → in_form c.year_hours c.runs k ≡ true
   pub share : right_share c.year_hours c.runs ≡ true
+
+-- an array with these runs at its front: behind them are runs of no hours
+abbrev pub array_of : List Run → List Run
+array_of rs = rs ++ replicate (366 - length rs) no_run

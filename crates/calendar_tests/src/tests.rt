@@ -71,10 +71,19 @@ fn readings_agree(rt: &impl Abort, calendar: &Calendar, month: u32) {
 #[test]
 fn readings_of_every_month_agree(rt: HostRuntime) {
     let mut calendar = Calendar::new();
+    let before = calendar;
     assert!(rt;
         calendar
             .fill(8_784, &[700, 1_430, 8_724], &[100, 340, 60])
             .is_ok()
+    );
+    // A copy keeps its year, and so does a clone of it, whatever the calendar is filled with.
+    assert_eq!(rt; before.year_hours(), 8_760);
+    assert_eq!(rt; before.stress_hours_in(1), 744);
+    assert!(rt;
+        before
+            .clone()
+            .is_ok_and(|clone| clone.stress_hours_in(1) == 744)
     );
     for month in 0..14 {
         readings_agree(&rt, &calendar, month);

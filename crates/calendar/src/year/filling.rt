@@ -1,27 +1,30 @@
 //! How a calendar is made, and how it is filled with another year.
-ghost use Rattle.std.specs.Prelude.{◌≡◌, ◌≤◌, ◌⊎◌, length, OnOk};
+ghost use Rattle.std.specs.Prelude.{◌≡◌, ◌≤◌, ◌⊎◌, length, take, OnOk};
 ghost use Rattle.calendar.specs.Judged.{judged, kept_or};
 ghost use Rattle.calendar.specs.Filling.{new_calendar, given_runs, given_year, fill_rows};
+ghost use Rattle.calendar.specs.Form.{array_of};
 
 use super::form::{first_bad, right_share};
 use super::{COMMON_YEAR, Calendar, LEAP_YEAR, MOST_RUNS};
 use crate::fault::CalendarFault;
 use crate::run::Run;
-use arrayvec::ArrayVec;
 
 /// The hours of January.
 const JANUARY: Run = Run { first: 0, len: 744 };
+/// What stands behind the runs of a calendar.
+const NO_RUN: Run = Run { first: 0, len: 0 };
 
 impl Calendar {
     /// A common year whose stress hours are those of January.
     pub fn new() -> Calendar
         ensures { result ≡ new_calendar }
     {
-        let mut runs = ArrayVec::new();
-        runs.push(JANUARY);
+        let mut runs = [NO_RUN; MOST_RUNS];
+        runs[0] = JANUARY;
         Calendar {
             year_hours: COMMON_YEAR,
             runs,
+            count: 1,
         }
     }
 
@@ -50,32 +53,38 @@ fn year_of(year_hours: u32, firsts: &[u16], lengths: &[u16]) -> Result<Calendar,
     if year_hours != COMMON_YEAR && year_hours != LEAP_YEAR {
         return Err(CalendarFault::YearHours);
     }
-    if firsts.len() > MOST_RUNS || firsts.len() != lengths.len() {
+    let count = firsts.len();
+    if count > MOST_RUNS || count != lengths.len() {
         return Err(CalendarFault::Sizes);
     }
     let runs = given_runs(firsts, lengths);
-    if let Some(k) = first_bad(year_hours, runs.as_slice()) {
+    if let Some(k) = first_bad(year_hours, &runs[..count]) {
         let place = k as u32 + 1;
         return Err(CalendarFault::Run { place });
     }
-    if !right_share(year_hours, runs.as_slice()) {
+    if !right_share(year_hours, &runs[..count]) {
         return Err(CalendarFault::Share);
     }
-    Ok(Calendar { year_hours, runs })
+    Ok(Calendar {
+        year_hours,
+        runs,
+        count,
+    })
 }
 
-/// The runs that are given.
-fn given_runs(firsts: &[u16], lengths: &[u16]) -> ArrayVec<Run, MOST_RUNS>
+/// The runs that are given, at the front of an array.
+fn given_runs(firsts: &[u16], lengths: &[u16]) -> [Run; MOST_RUNS]
     requires few { length firsts.now ≤ 366 }
     requires even { length firsts.now ≡ length lengths.now }
-    ensures { result.items ≡ given_runs firsts.now lengths.now }
+    ensures front { take (length firsts.now) result ≡ given_runs firsts.now lengths.now }
+    ensures whole { result ≡ array_of (given_runs firsts.now lengths.now) }
 {
-    let mut runs = ArrayVec::new();
+    let mut runs = [NO_RUN; MOST_RUNS];
     for (k, first) in firsts.iter().enumerate() {
-        runs.push(Run {
+        runs[k] = Run {
             first: *first,
             len: lengths[k],
-        });
+        };
     }
     runs
 }

@@ -14,7 +14,7 @@ impl Calendar {
         ensures value { result.now ≡ self.now.runs }
         ensures kept { IsInForm self.now }
     {
-        self.runs.as_slice()
+        &self.runs[..self.count]
     }
 
     /// Whether an hour is a stress hour.
