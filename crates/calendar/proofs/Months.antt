@@ -7,6 +7,10 @@ use Rattle.std.proofs.lemmas.Bool.Decides.{nat_tests}
 use Rattle.calendar.specs.Form.{is_year}
 use Rattle.calendar.specs.Months.{days, first_months, month_begins, month_ends}
 
+-- the twelve months have the hours of the year
+pub year_days : (year : ℕ) → is_year year ≡ true → 24 * sum (days year) ≡ year
+year_days year right = grind (arith, nat_tests)
+
 -- a year has at most 8,784 hours
 pub year_most : (year : ℕ) → is_year year ≡ true → year ≤ 8784
 year_most year right = grind (arith, nat_tests)

@@ -7,7 +7,7 @@ use Rattle.std.proofs.lemmas.Bool.{and_parts, ltb-true, leb-true, or_cases, both
 use Rattle.std.proofs.lemmas.Bool.Decides.{nat_tests}
 use Rattle.calendar.specs.declared.run.Run.{Run}
 use Rattle.calendar.specs.Runs.{span, ends, covers, part, part_hours}
-use Rattle.calendar.specs.Form.{run_at, in_form, hours}
+use Rattle.calendar.specs.Form.{run_at, apart, hours}
 use Rattle.calendar.specs.Stress.{some_covers}
 use Rattle.calendar.proofs.Keeping.{keeps_none, kept_either}
 use Rattle.calendar.proofs.Spans.{span_none, span_some}
@@ -63,16 +63,16 @@ kept_parts (r ∷ rs) from n a up =
     (λ h later. covered_from rs (ends r) h up.1 later)
     ∙ ap₂ (λ (xs ys : List ℕ). xs ++ ys) (kept_part r n a) (kept_parts rs (ends r) n a up.1)
 
--- a run in form begins after the end of the run before it
-apart_next : (year : ℕ) (rs : List Run) (k : ℕ) → in_form year rs (suc k) ≡ true → ends (run_at rs k) < (run_at rs (suc k)).first
-apart_next year rs k formed = let before : suc k - 1 ≡ k = omega arith in grind (arith, nat_tests)
+-- a run that is apart begins after the end of the run before it
+apart_next : (rs : List Run) (k : ℕ) → apart rs (suc k) ≡ true → ends (run_at rs k) < (run_at rs (suc k)).first
+apart_next rs k is-apart = let before : suc k - 1 ≡ k = omega arith in grind (arith, nat_tests)
 
 -- what the runs cover of a span is their parts of it
-pub covered_parts : (year : ℕ) (rs : List Run) (from to : ℕ) → ((k : ℕ) → k < length rs → in_form year rs k ≡ true) → from ≤ to → filter (some_covers rs) (span from to) ≡ flat_map (part from to) rs
-covered_parts year rs from to formed forward =
+pub covered_parts : (rs : List Run) (from to : ℕ) → ((k : ℕ) → k < length rs → apart rs k ≡ true) → from ≤ to → filter (some_covers rs) (span from to) ≡ flat_map (part from to) rs
+covered_parts rs from to each-apart forward =
     let whole : from + (to - from) ≡ to = omega arith in
     let next : (k : ℕ) → suc k < length rs → ends (run_at rs k) < (run_at rs (suc k)).first =
-    λ k h. apart_next year rs k (formed (suc k) h) in
+    λ k h. apart_next rs k (each-apart (suc k) h) in
     kept_parts rs 0 (to - from) from (from_apart rs 0 (λ h. omega arith) next) ∙ ap (λ (e : ℕ). flat_map (part from e) rs) whole
 
 module _ (from to : ℕ) where
