@@ -101,6 +101,25 @@ const FAILED: Energy = Energy {
 };
 
 #[test]
+fn a_january_with_44_poor_hours(rt: HostRuntime) {
+    let hours: [ThermalHour; 744] = std::array::from_fn(|i| ThermalHour {
+        declared: if i < 700 { 50_000 } else { 20_000 },
+        least: 10_000,
+    });
+    comes_to(&rt, january::<Thermal>(50_000, &hours), 744, 35_880_000);
+    let test = Some(Test {
+        first: 100,
+        hours: &[GOOD, FAILED, GOOD],
+    });
+    comes_to(
+        &rt,
+        month::<Thermal>(1, 50_000, &hours, test),
+        744,
+        35_830_000,
+    );
+}
+
+#[test]
 fn a_failed_stress_hour_counts_once_and_credits_nothing(rt: HostRuntime) {
     let passed = Some(Test {
         first: 743,
