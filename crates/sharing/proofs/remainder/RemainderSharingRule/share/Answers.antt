@@ -23,7 +23,11 @@ charged_by_remainder c w rows once twice rests left whole rems over more =
 pub invariant_of-hand_out : goal.invariant_of-hand_out
 invariant_of-hand_out c =
     let weighed = c.in_ok-weighed.weighed in
-    record { top = rw (c.as_slice-rems.ensures.value, c.divide_all-cents.ensures.rests) (none_above weighed.total weighed.whole (mwhs c.args.rows.now) weighed.some); few = rw (c.as_slice-rems.ensures.value, c.divide_all-cents.ensures.rests) (omega (arith, length-remainders weighed.total weighed.whole (mwhs c.args.rows.now), c.requires.rows)) }
+    let ms = mwhs c.args.rows.now in
+    let all = c.as_slice-rems.ensures.value ∙ c.divide_all-cents.ensures.rests in record {
+      top = rw all (none_above weighed.total weighed.whole ms weighed.some);
+      few = omega (arith, ap length all, length-remainders weighed.total weighed.whole ms, c.requires.rows);
+    }
 
 pub hand_out-requires-clause-fits : goal.hand_out-requires-clause-fits
 hand_out-requires-clause-fits c =
