@@ -3,7 +3,6 @@ use Rattle.std.proofs.Common.{◌≡◌, ℕ, ◌+◌, ◌<◌, ◌≤◌, Bool,
 use Rattle.std.proofs.lemmas.List.Sums.{sum_by-cons}
 use Rattle.std.proofs.lemmas.Bool.{false≢true}
 use Rattle.calendar.specs.Calendar.{Calendar}
-use Rattle.calendar.specs.Form.{IsInForm}
 use Rattle.calendar.specs.Filling.{given_year}
 use Rattle.ledger.specs.declared.course.Call.TheVariants as call
 use Rattle.ledger.specs.declared.kept.Ledger.{Ledger}
@@ -84,13 +83,12 @@ module _ (l : Ledger) (h : List Act) (old : Simulates h l.book) where
   abbrev At : Stage → Type 0
   At = CourseBy h b.calendar (reports b.month)
 
-  pub opened_simulates : (year : ℕ) (firsts lengths : List ℕ) → unopened b.stage ≡ true → IsInForm (given_year year firsts lengths) → Simulates (opened year firsts lengths ∷ h) (opening.opened b year firsts lengths)
-  opened_simulates year firsts lengths not_yet formed =
+  pub opened_simulates : (year : ℕ) (firsts lengths : List ℕ) → unopened b.stage ≡ true → Simulates (opened year firsts lengths ∷ h) (opening.opened b year firsts lengths)
+  opened_simulates year firsts lengths not_yet =
       let is = stage_unopened b.stage not_yet in
       let start = subst At is old.course in
       subst (λ x. TradesBy x b.trade → RegistersBy x b.register → Simulates (opened year firsts lengths ∷ x) (opening.opened b year firsts lengths)) (sym start.0) (λ trades registers. record {
         calendar = refl;
-        formed = formed;
         numbers = tt;
         trades = trades;
         registers = registers;
@@ -107,7 +105,6 @@ module _ (l : Ledger) (h : List Act) (old : Simulates h l.book) where
       let act = registered n letter power in
       record {
         calendar = old.calendar;
-        formed = old.formed;
         numbers = (ap (λ x. x + 1) old.registers.count, old.numbers);
         trades = old.trades;
         registers = registers_alike _ _ _ _ _ _ _ (sym (one_more is_registering act h refl)) (λ f. sym (told_figure (λ x. x) (eqb f n) power (latest (firm_of f) h) 0)) (λ f. refl) (registered_registers _ _ _ b old.registers letter power);
@@ -124,7 +121,6 @@ module _ (l : Ledger) (h : List Act) (old : Simulates h l.book) where
       let now = subst At is old.course in
       record {
         calendar = old.calendar;
-        formed = old.formed;
         numbers = old.numbers;
         trades = old.trades;
         registers = registers_alike _ _ _ _ _ _ _ refl (λ g. refl) (λ g. sym (told_figure (λ x. x) (eqb g f) v (latest (switch_of g) h) false)) (switched_registers _ _ _ b old.registers f v from to);
@@ -145,7 +141,6 @@ module _ (l : Ledger) (h : List Act) (old : Simulates h l.book) where
       let made = awarded_trades _ _ _ _ _ b f kw price ok l.sized.0 old.trades in
       record {
         calendar = old.calendar;
-        formed = old.formed;
         numbers = (refl, old.numbers);
         trades = trades_alike _ _ _ _ _ _ _ _ _ _ _ (sym (one_more is_award act h refl)) (λ a. sym (told_figure (λ x. x.0) (eqb a (n + 1)) (kw, price) (latest (terms_of a) h) (0, 0))) (λ a. sym (told_figure (λ x. x.1) (eqb a (n + 1)) (kw, price) (latest (terms_of a) h) (0, 0))) (λ a g. sym (sum_by-cons (brought a g) act h)) (λ a g. refl) made;
         registers = old.registers;
@@ -163,7 +158,6 @@ module _ (l : Ledger) (h : List Act) (old : Simulates h l.book) where
       let moved-kw = ceded_trades _ _ _ _ _ b a giver taker kw ok l.sized.0 l.wide old.trades in
       record {
         calendar = old.calendar;
-        formed = old.formed;
         numbers = old.numbers;
         trades = trades_alike _ _ _ _ _ _ _ _ _ _ _ refl (λ x. refl) (λ x. refl) (λ x g. sym (sum_by-cons (brought x g) act h)) (λ x g. sym (sum_by-cons (lost x g) act h)) moved-kw;
         registers = old.registers;

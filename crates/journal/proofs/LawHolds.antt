@@ -93,7 +93,7 @@ module _ (h : List Act) (l : Ledger) (says : Simulates h l.book) where
   holds : Holds h b
   holds = record {
     calendar = says.calendar;
-    formed = says.formed;
+    formed = l.formed;
     stage = staged b.stage h b.calendar (reports b.month) says.course;
     numbers = says.numbers;
     facility_numbers = says.registers.count;

@@ -4,7 +4,6 @@ pub mod Bounded
 pub mod Trading
 pub mod Registers
 pub mod Tables
-pub mod Formed
 pub mod Alike
 pub mod Months
 pub mod Balance

@@ -58,7 +58,6 @@ cut_off_more h c ms m f x v from to long came old = record {
 pub claims_simulate : (h : List Act) (b : Book) (f : ℕ) (x : Claim) → Simulates h b → Simulates h (with_claim b f x)
 claims_simulate h b f x old = record {
   calendar = old.calendar;
-  formed = old.formed;
   numbers = old.numbers;
   trades = old.trades;
   registers = old.registers;
@@ -90,7 +89,6 @@ module _ (l : Ledger) (h : List Act) (old : Simulates h l.book) where
       let now = subst At is old.course in
       record {
         calendar = old.calendar;
-        formed = old.formed;
         numbers = old.numbers;
         trades = old.trades;
         registers = old.registers;
@@ -130,7 +128,6 @@ module _ (l : Ledger) (h : List Act) (old : Simulates h l.book) where
   pub reported_simulates : (f : ℕ) (x : ReportMeaning) (v : Measured) (m : ℕ) (q : Phase) → (q ≡ Metering) ⊎ (q ≡ Claims) → b.stage ≡ Month m q → 0 < f → f ≤ length b.register.items → measured_for b f x ≡ Ok v → Simulates (reported f x ∷ h) (with_month b (put_report b.month f v))
   reported_simulates f x v m q after is from to taken = record {
     calendar = old.calendar;
-    formed = old.formed;
     numbers = old.numbers;
     trades = old.trades;
     registers = old.registers;
@@ -148,7 +145,6 @@ module _ (l : Ledger) (h : List Act) (old : Simulates h l.book) where
       let kept : CutOff (act ∷ h) b.calendar (reports b.month) m = record { trade = now.3.trade; switches = now.3.switches; nth = now.3.nth; results = now.3.results } in
       record {
         calendar = old.calendar;
-        formed = old.formed;
         numbers = old.numbers;
         trades = old.trades;
         registers = old.registers;

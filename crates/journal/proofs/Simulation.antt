@@ -2,7 +2,6 @@
 use Rattle.std.proofs.Common.{◌≡◌, ℕ, ◌+◌, ◌-◌, ◌<◌, ◌≤◌, List, [], map, get_or, None, sum_by, count_by, Option, unwrap_or}
 use Rattle.std.specs.List.{range_with_len}
 use Rattle.calendar.specs.Calendar.{Calendar}
-use Rattle.calendar.specs.Form.{IsInForm}
 use Rattle.metering.specs.declared.measuring.Measured.{Measured}
 use Rattle.ledger.specs.declared.state.Book.{Book}
 use Rattle.ledger.specs.declared.state.Filed.{Filed}
@@ -67,7 +66,6 @@ YearBy h c n = sum_by (all_lines (λ l. l.right) c h) (range_with_len 1 n) ≡ e
 
 pub record Simulates (h : List Act) (b : Book) : Type 0 where
   pub calendar : Opened b.calendar h
-  pub formed : IsInForm b.calendar
   pub numbers : Numbered h
   pub trades : TradesBy h b.trade
   pub registers : RegistersBy h b.register

@@ -40,7 +40,6 @@ use Rattle.ledger.proofs.JudgedRows.{accepted_by, passed_through}
 use Rattle.ledger.proofs.Places.{same_at}
 use Rattle.ledger.proofs.Traded.{awardable, cedable}
 use Rattle.journal.specs.Acts.{Act, acts, registered, awarded}
-use Rattle.journal.proofs.Formed.{new_formed, opened_formed}
 use Rattle.journal.proofs.Tables.{openable, registrable, switchable, award_stage, cede_stage, cut_stage, reportable, answerable, advanceable, closable}
 use Rattle.journal.proofs.Simulation.{Simulates}
 use Rattle.journal.proofs.Acting.{opened_simulates, registered_simulates, switched_simulates, awarded_simulates, ceded_simulates}
@@ -151,7 +150,7 @@ module _ (l : Ledger) (j : Journal) (old : Simulates (acts j) l.book) where
   step : (e : Entry) (b' : Book) → Allowed b e b' → Simulates (acts (e ∷ j)) b'
   step (opening year firsts lengths (Ok u)) b' t =
       let ok = passed (course call.Open b.stage) (year_answer year firsts lengths) u t.answer in
-      same_book _ (opened b year firsts lengths) b' t.after (opened_simulates l (acts j) old year firsts lengths (openable b.stage ok.0) (opened_formed year firsts lengths u ok.1))
+      same_book _ (opened b year firsts lengths) b' t.after (opened_simulates l (acts j) old year firsts lengths (openable b.stage ok.0))
   step (opening year firsts lengths (Err e)) b' t = same_book _ b b' t.after old
   step (registering letter modules count access (Ok f)) b' t = registering_step letter modules count access f b' t
   step (registering letter modules count access (Err e)) b' t = same_book _ b b' t.after old
@@ -180,7 +179,6 @@ module _ (l : Ledger) (j : Journal) (old : Simulates (acts j) l.book) where
 blank_simulates : Simulates [] blank
 blank_simulates = record {
   calendar = refl;
-  formed = new_formed;
   numbers = tt;
   trades = record {
     count = refl;

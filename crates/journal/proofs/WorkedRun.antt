@@ -1,7 +1,8 @@
 -- The worked run, recorded step by step by computing what each call answers and leaves.
-use Rattle.std.proofs.Common.{ℕ, ◌-◌, true, [], ◌∷◌, refl, ◌∙◌, lit≤}
+use Rattle.std.proofs.Common.{◌≡◌, ℕ, ◌-◌, true, [], ◌∷◌, refl, ◌∙◌, subst, arith, lit≤}
 use Rattle.std.proofs.lemmas.List.{length-set}
-use Rattle.calendar.specs.Filling.{given_year}
+use Rattle.calendar.specs.Form.{is_year, in_form, right_share, IsInForm}
+use Rattle.calendar.specs.Filling.{given_runs, given_year}
 use Rattle.calendar.specs.Months.{first_months}
 use Rattle.sharing.specs.RunningLaws.{running_lawful}
 use Rattle.sharing.specs.RemainderLaws.{remainder_lawful}
@@ -25,11 +26,21 @@ use Rattle.ledger.proofs.Traded.{awardable, cedable}
 use Rattle.ledger.proofs.After.{ledger_of, filled_kept, registered_kept, switched_kept, awarded_kept, ceded_kept, staged_kept, month_kept, closed_kept}
 use Rattle.journal.specs.Worked.{month_one, journal}
 
+-- a calendar of one run, by its year, its run and its share
+pub one_run : (year first len : ℕ) → is_year year ≡ true → in_form year (given_runs (first ∷ []) (len ∷ [])) 0 ≡ true → right_share year (given_runs (first ∷ []) (len ∷ [])) ≡ true → IsInForm (given_year year (first ∷ []) (len ∷ []))
+one_run year first len right run share =
+    let runs = given_runs (first ∷ []) (len ∷ []) in record {
+      year = right;
+      few = lit≤ tt;
+      formed = λ k there. let at_first : 0 ≡ k = omega (arith, there) in subst (λ i. in_form year runs i ≡ true) at_first run;
+      share = share;
+    }
+
 abbrev fresh : Ledger
-fresh = ledger_of blank blank_kept
+fresh = ledger_of blank (blank_kept (one_run 8_760 0 744 refl refl refl))
 
 abbrev opened : Ledger
-opened = ledger_of (opening.opened fresh.book 8_760 (1_415 ∷ []) (438 ∷ [])) (filled_kept fresh (given_year 8_760 (1_415 ∷ []) (438 ∷ [])) (Month 1 Trading) (lit≤ tt, lit≤ tt))
+opened = ledger_of (opening.opened fresh.book 8_760 (1_415 ∷ []) (438 ∷ [])) (filled_kept fresh (given_year 8_760 (1_415 ∷ []) (438 ∷ [])) (Month 1 Trading) (one_run 8_760 1_415 438 refl refl refl) (lit≤ tt, lit≤ tt))
 
 -- the facilities, and the first switched on
 abbrev one : Ledger

@@ -2,6 +2,7 @@
 use Rattle.std.proofs.Common.{◌≡◌, ℕ, ◌-◌, ◌<◌, ◌≤◌, Bool, false, List, length, refl, ◌∙◌, arith, lit≤}
 use Rattle.std.proofs.lemmas.List.{length-set, length_push}
 use Rattle.calendar.specs.Calendar.{Calendar}
+use Rattle.calendar.specs.Form.{IsInForm}
 use Rattle.ledger.specs.declared.kept.Ledger.{Ledger}
 use Rattle.ledger.specs.declared.state.Book.{Book}
 use Rattle.ledger.specs.declared.state.Filed.{Filed}
@@ -26,6 +27,7 @@ use Rattle.ledger.proofs.Traded.{Awardable, Cedable, awarded_wide, awarded_withi
 abbrev pub ledger_of : (b : Book) → Kept b → Ledger
 ledger_of b k = record {
   book = b;
+  formed = k.formed;
   sized = k.sized;
   shaped = k.shaped;
   wide = k.wide;
@@ -45,6 +47,7 @@ module _ (l : Ledger) where
   -- another stage, of a month of the year
   pub staged_kept : (s : Stage) → Dated (month_of s) → Kept (with_stage b s)
   staged_kept s dated = record {
+    formed = l.formed;
     sized = l.sized;
     shaped = l.shaped;
     wide = l.wide;
@@ -57,9 +60,10 @@ module _ (l : Ledger) where
     dated = dated;
   }
 
-  -- another calendar
-  pub filled_kept : (c : Calendar) (s : Stage) → Dated (month_of s) → Kept (with_stage (with_calendar b c) s)
-  filled_kept c s dated = record {
+  -- another calendar, in form
+  pub filled_kept : (c : Calendar) (s : Stage) → IsInForm c → Dated (month_of s) → Kept (with_stage (with_calendar b c) s)
+  filled_kept c s formed dated = record {
+    formed = formed;
     sized = l.sized;
     shaped = l.shaped;
     wide = l.wide;
@@ -75,6 +79,7 @@ module _ (l : Ledger) where
   -- other reports and claims of the month
   pub month_kept : (month : List Filed) → length month ≡ 64 → Kept (with_month b month)
   month_kept month long = record {
+    formed = l.formed;
     sized = l.sized;
     shaped = (long, l.shaped.1);
     wide = l.wide;
@@ -89,6 +94,7 @@ module _ (l : Ledger) where
 
   pub registered_kept : (letter power : ℕ) → length b.register.items < 64 → power ≤ 1_000_000 → Kept (registered b letter power)
   registered_kept letter power room few = record {
+    formed = l.formed;
     sized = (omega (arith, room, length_push b.register.items (record { letter = letter; firm = power; on = false })), l.sized.1);
     shaped = l.shaped;
     wide = l.wide;
@@ -110,6 +116,7 @@ module _ (l : Ledger) where
   switched_kept f on inside =
       let same = switched_firm f on inside in
       record {
+        formed = l.formed;
         sized = (omega (arith, l.sized.0, length-set b.register.items (f - 1) (set_on (facility_at b.register (f - 1)) on)), l.sized.1);
         shaped = l.shaped;
         wide = l.wide;
@@ -124,6 +131,7 @@ module _ (l : Ledger) where
 
   pub awarded_kept : (f kw price : ℕ) → Awardable b f kw price → Kept (awarded b f kw price)
   awarded_kept f kw price ok = record {
+    formed = l.formed;
     sized = (l.sized.0, omega (arith, ok.room, length_push b.trade.items (new_award f kw price)));
     shaped = l.shaped;
     wide = awarded_wide b f kw price ok l.wide;
@@ -140,6 +148,7 @@ module _ (l : Ledger) where
   ceded_kept a giver taker kw ok =
       let old = award_at b.trade (a - 1) in
       record {
+        formed = l.formed;
         sized = (l.sized.0, omega (arith, l.sized.1, length-set b.trade.items (a - 1) (with_held old (shifted old.held (giver - 1) (taker - 1) kw))));
         shaped = l.shaped;
         wide = ceded_wide b a giver taker kw ok l.sized.0 l.wide;
@@ -162,6 +171,7 @@ module _ (l : Ledger) where
       let m = month_of b.stage in
       let inside : m - 1 < length b.lines = omega (arith, l.shaped.1, l.dated.0, l.dated.1) in
       record {
+        formed = l.formed;
         sized = l.sized;
         shaped = (refl, length-set b.lines (m - 1) (month_lines b m) ∙ l.shaped.1);
         wide = l.wide;

@@ -1,4 +1,5 @@
 //! The ledger: its book, with the facts that every book keeps, one each.
+ghost use Rattle.calendar.specs.Form.{IsInForm};
 ghost use Rattle.ledger.specs.Form.{Sized, Shaped, Wide, Lined, Booked, Firm, Within, Whole, Priced, Dated, month_of};
 
 use crate::state::Book;
@@ -7,6 +8,7 @@ use crate::state::Book;
 #[derive(Drop)]
 pub struct Ledger {
     pub(crate) book: Book,
+    ghost formed: { IsInForm book.calendar },
     ghost sized: { Sized book },
     ghost shaped: { Shaped book },
     ghost wide: { Wide book.trade },

@@ -1,5 +1,6 @@
 //! A new ledger.
 ghost use Rattle.std.specs.Prelude.{◌≡◌, []};
+ghost use Rattle.calendar.specs.Form.{IsInForm};
 ghost use Rattle.ledger.specs.Making.{blank};
 ghost use Rattle.ledger.specs.Runs.{Recorded};
 
@@ -27,7 +28,8 @@ impl Ledger {
 
 /// A book with no entry in it.
 fn blank_book() -> Book
-    ensures { result ≡ blank }
+    ensures value { result ≡ blank }
+    ensures kept { IsInForm result.calendar }
 {
     Book {
         calendar: Calendar::new(),

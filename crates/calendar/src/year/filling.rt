@@ -2,7 +2,7 @@
 ghost use Rattle.std.specs.Prelude.{◌≡◌, ◌≤◌, ◌⊎◌, length, take, OnOk};
 ghost use Rattle.calendar.specs.Judged.{judged, kept_or};
 ghost use Rattle.calendar.specs.Filling.{new_calendar, given_runs, given_year, fill_rows};
-ghost use Rattle.calendar.specs.Form.{array_of};
+ghost use Rattle.calendar.specs.Form.{array_of, IsInForm};
 
 use super::form::{first_bad, right_share};
 use super::{COMMON_YEAR, Calendar, LEAP_YEAR, MOST_RUNS};
@@ -17,7 +17,8 @@ const NO_RUN: Run = Run { first: 0, len: 0 };
 impl Calendar {
     /// A common year whose stress hours are those of January.
     pub fn new() -> Calendar
-        ensures { result ≡ new_calendar }
+        ensures value { result ≡ new_calendar }
+        ensures kept { IsInForm result }
     {
         let mut runs = [NO_RUN; MOST_RUNS];
         runs[0] = JANUARY;
@@ -40,7 +41,10 @@ impl Calendar {
         ensures after { self.new ≡ kept_or result (given_year year_hours firsts.now lengths.now) self.old }
         ensures years { OnOk result ((year_hours ≡ COMMON_YEAR) ⊎ (year_hours ≡ LEAP_YEAR)) }
         ensures most { OnOk result (length firsts.now ≤ MOST_RUNS) }
+        ensures kept { IsInForm self.new }
     {
+        // Where the year is refused, reading a field tells the proof what the calendar keeps.
+        let _ = &self.year_hours;
         *self = year_of(year_hours, firsts, lengths)?;
         Ok(())
     }
